@@ -1,0 +1,55 @@
+-- How a goal that is a choice is met: by the branch that its test takes.
+use Prim.Native.Nat.{ℕ, _<_, _≤_}
+use mathlib.Core.Bool.{Bool, true, false}
+use mathlib.Core.Path.{_≡_, refl, sym, _∙_}
+use borrow.Author.Tests.{lt-ltb, le-ltb, le-leb, lt-leb, eq-eqb, ne-eqb, ltb-true, ltb-false, eqb-true, eqb-false}
+use lib.Dec.{ltb, eqb}
+use Rattle.base.specs.Choice.{pick}
+
+pub pick-yes : {A : Type 0} (t : Bool) (a b r : A) → t ≡ true → r ≡ a → r ≡ pick t a b
+unfolding pick
+pick-yes t a b r e p = rw e p
+
+pub pick-no : {A : Type 0} (t : Bool) (a b r : A) → t ≡ false → r ≡ b → r ≡ pick t a b
+unfolding pick
+pick-no t a b r e p = rw e p
+
+-- the choice between two that are the same
+pub pick-same : {A : Type 0} (t : Bool) (a : A) → pick t a a ≡ a
+unfolding pick
+pick-same true a = refl
+pick-same false a = refl
+
+-- a function of a choice is the choice of its values
+pub pick-through : {A B : Type 0} (f : A → B) (t : Bool) (a b : A) → f (pick t a b) ≡ pick t (f a) (f b)
+unfolding pick
+pick-through f true a b = refl
+pick-through f false a b = refl
+
+pub same : {A : Type 0} (a : A) → a ≡ a
+same a = refl
+
+-- a test that a callee made, read off the bool that it returned
+pub told-yes : (t u : Bool) → u ≡ t → u ≡ true → t ≡ true
+told-yes t u e p = sym e ∙ p
+
+pub told-no : (t u : Bool) → u ≡ t → u ≡ false → t ≡ false
+told-no t u e p = sym e ∙ p
+
+-- a proof by what a test says
+pub by-test : {P : Type 0} (t : Bool) → (t ≡ true → P) → (t ≡ false → P) → P
+by-test true y n = y refl
+by-test false y n = n refl
+
+-- the same for an order and an equation of numbers
+pub by-order : {P : Type 0} (a b : ℕ) → (a < b → P) → (b ≤ a → P) → P
+by-order a b y n = by-test (ltb a b) (λ e. y (ltb-true a b e)) (λ e. n (ltb-false a b e))
+
+pub by-equal : {P : Type 0} (a b : ℕ) → (a ≡ b → P) → ((a ≡ b → ⊥) → P) → P
+by-equal a b y n = by-test (eqb a b) (λ e. y (eqb-true a b e)) (λ e. n (eqb-false a b e))
+
+-- what turns the facts of a path into the values of its tests
+pub ruleset tests = (lt-ltb, le-ltb, le-leb, lt-leb, eq-eqb, ne-eqb)
+
+-- what `search` needs to close a return of a function whose tests its specification repeats
+pub ruleset cases = (pick-yes, pick-no, same, tests, told-yes, told-no)

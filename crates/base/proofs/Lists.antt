@@ -1,0 +1,1 @@
+-- Laws of lists that the kit lacks, over any element type.
