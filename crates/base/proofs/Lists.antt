@@ -1,1 +1,68 @@
--- Laws of lists that the kit lacks, over any element type.
+-- Laws of lists that the kit lacks, over any element type. `sets l i vs` is l with the elements of vs stored from place i on.
+use Prim.Native.Nat.{ℕ, zero, suc, _+_, _<_, _≤_}
+use mathlib.Core.Path.{_≡_, refl, sym, ap, _∙_}
+use mathlib.Core.List.{List, [], _∷_, _++_, append-nil}
+use native.Mathlib.Omega.{arith}
+use native.Mathlib.Nat.{add-zero, add-suc, suc-add}
+use native.Mathlib.Numerals.{add-one}
+use lib.ListN.{length, getD, take, drop, set, length-set, length-append, drop-of-length-le}
+use lib.Seq.{sets, sets-eq, drop-cons, take-suc, getD-set-same, getD-set-other, length-take-le, take-at, drop-at}
+
+module _ {A : Type 0} where
+  -- ---- one element more, as a loop's counter has it
+
+  pub drop-more : (l : List A) (i : ℕ) (d : A) → i < length l → drop i l ≡ getD l i d ∷ drop (i + 1) l
+  drop-more l i d h = rw (add-one i) (drop-cons l i d h)
+
+  pub take-more : (l : List A) (i : ℕ) (d : A) → i < length l → take (i + 1) l ≡ take i l ++ (getD l i d ∷ [])
+  take-more l i d h = rw (add-one i) (take-suc l i d h)
+
+  -- ---- a run of stores
+
+  pub sets-append : (l : List A) (i : ℕ) (vs ws : List A) → sets l i (vs ++ ws) ≡ sets (sets l i vs) (i + length vs) ws
+  sets-append l i [] ws = ap (λ k. sets l k ws) (sym (add-zero i))
+  sets-append l i (v ∷ vs) ws =
+      sets-append (set l i v) (suc i) vs ws
+      ∙ ap (λ k. sets (sets (set l i v) (suc i) vs) k ws) (suc-add i (length vs) ∙ sym (add-suc i (length vs)))
+
+  -- a turn of a loop that fills a list from place i on
+  pub sets-more : (l : List A) (i : ℕ) (vs : List A) (a : A) → set (sets l i vs) (i + length vs) a ≡ sets l i (vs ++ (a ∷ []))
+  sets-more l i vs a = sym (sets-append l i vs (a ∷ []))
+
+  -- what lies before the stores, and what lies behind them
+  pub getD-sets-before : (vs l : List A) (i j : ℕ) (d : A) → j < i → getD (sets l i vs) j d ≡ getD l j d
+  getD-sets-before [] l i j d h = refl
+  getD-sets-before (v ∷ vs) l i j d h = getD-sets-before vs (set l i v) (suc i) j d (omega arith) ∙ getD-set-other l i j v d (omega arith)
+
+  pub getD-sets-behind : (vs l : List A) (i j : ℕ) (d : A) → i + length vs ≤ j → getD (sets l i vs) j d ≡ getD l j d
+  getD-sets-behind [] l i j d h = refl
+  getD-sets-behind (v ∷ vs) l i j d h = getD-sets-behind vs (set l i v) (suc i) j d (omega arith) ∙ getD-set-other l i j v d (omega arith)
+
+  -- what is stored
+  pub getD-sets : (vs l : List A) (i k : ℕ) (d : A) → k < length vs → i + length vs ≤ length l → getD (sets l i vs) (i + k) d ≡ getD vs k d
+  getD-sets [] l i k d h w = absurd (omega arith)
+  getD-sets (v ∷ vs) l i zero d h w =
+      rw (add-zero i) (getD-sets-before vs (set l i v) (suc i) i d (omega arith) ∙ getD-set-same l i v d (omega arith))
+  getD-sets (v ∷ vs) l i (suc k) d h w =
+      ap (λ n. getD (sets (set l i v) (suc i) vs) n d) (add-suc i k ∙ sym (suc-add i k))
+      ∙ getD-sets vs (set l i v) (suc i) k d (omega arith) (rw (length-set l i v) (omega arith))
+
+  module _ (l : List A) (i : ℕ) (vs : List A) (room : i + length vs ≤ length l) where
+    front-length : length (take i l ++ vs) ≡ i + length vs
+    front-length = length-append (take i l) vs ∙ ap (λ n. n + length vs) (length-take-le i l (omega arith))
+
+    parted : sets l i vs ≡ (take i l ++ vs) ++ drop (i + length vs) l
+    parted = sets-eq vs l i room
+
+    pub take-sets : take (i + length vs) (sets l i vs) ≡ take i l ++ vs
+    take-sets = rw parted (take-at (take i l ++ vs) (drop (i + length vs) l) (i + length vs) front-length)
+
+    pub drop-sets : drop (i + length vs) (sets l i vs) ≡ drop (i + length vs) l
+    drop-sets = rw parted (drop-at (take i l ++ vs) (drop (i + length vs) l) (i + length vs) front-length)
+
+  -- stores over the whole list leave what was stored
+  pub sets-whole : (l vs : List A) → length vs ≡ length l → sets l 0 vs ≡ vs
+  sets-whole l vs e =
+      sets-eq vs l 0 (omega arith)
+      ∙ ap (λ r. vs ++ r) (drop-of-length-le l {i = 0 + length vs} (omega arith))
+      ∙ append-nil vs

@@ -4,4 +4,6 @@ pub mod SignedType
 pub mod Quotient
 pub mod Bits
 pub mod Squaring
+pub mod Comparison
 pub mod Agreement
+pub mod Readings

@@ -21,11 +21,11 @@ pub held : (a : ℕ) (r : ℤ) → a < 4294967296 → r ≡ signed a → toZ w32
 held a r h e = rw e (toZ-ofZ (record { sfits = signed-small a h }))
 
 -- -1 less a number
-less-one-pos : (n : ℕ) → negsuc 0 -ℤ pos n ≡ negsuc n
+pub less-one-pos : (n : ℕ) → negsuc 0 -ℤ pos n ≡ negsuc n
 less-one-pos zero = refl
 less-one-pos (suc n) = ap negsuc (omega arith)
 
-less-one-negsuc : (n : ℕ) → negsuc 0 -ℤ negsuc n ≡ pos n
+pub less-one-negsuc : (n : ℕ) → negsuc 0 -ℤ negsuc n ≡ pos n
 less-one-negsuc n = rw (le-ltb (suc n) 1 (omega arith)) (ap pos (omega arith))
 
 -- ---- a pattern of the upper half as an i32

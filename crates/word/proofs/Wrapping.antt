@@ -85,7 +85,7 @@ product-small : (a b : ℕ) → product a b < 4294967296
 unfolding product
 product-small a b = wrap-small (a * b)
 
-word-pos : (n : ℕ) → word (pos n) ≡ wrap n
+pub word-pos : (n : ℕ) → word (pos n) ≡ wrap n
 unfolding word
 word-pos n = refl
 

@@ -4,7 +4,7 @@ use Rattle.word.specs.declared.Answer.the-variants.{Value, ZeroDivisor, 
 use Rattle.word.specs.Word.{Outcome, value, fault}
 
 -- document 01's number of each fault
-unfoldable pub outcome : Answer → Outcome
+abbrev pub outcome : Answer → Outcome
 outcome (Value w) = value w
 outcome ZeroDivisor = fault 1
 outcome NegativeExponent = fault 2

@@ -1,4 +1,5 @@
 pub mod Word
 pub mod Answers
 pub mod Integers
+pub mod Readings
 pub mod Internal

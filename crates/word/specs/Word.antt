@@ -63,7 +63,7 @@ notBits a = 4294967295 - a
 
 -- ---- "Comparison is signed and never wraps."
 
-unfoldable pub related : Relation → ℕ → ℕ → Bool
+abbrev pub related : Relation → ℕ → ℕ → Bool
 related Equal a b = eqb a b
 related Unequal a b = not (eqb a b)
 related Less a b = ltZ (signed a) (signed b)
@@ -76,7 +76,7 @@ unfoldable pub comparison : ℕ → ℕ → ℕ
 comparison a b = pick (related Less a b) (word (negsuc 0)) (pick (related Equal a b) 0 1)
 
 -- B..: "only if ACC relates so to 0"
-unfoldable pub relatedToZero : Relation → ℕ → Bool
+abbrev pub relatedToZero : Relation → ℕ → Bool
 relatedToZero r a = related r a 0
 
 -- ---- operations that may fault

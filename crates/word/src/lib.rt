@@ -1,9 +1,11 @@
 // Word arithmetic on u32 patterns, document 01. Each function's equation cites specs/Word.antt.
 ghost use mathlib.Core.Path.{_≡_};
+ghost use Prim.Native.Nat.{_^_};
+ghost use lib.Signed.{quotZ};
 ghost use Rattle.word.specs.Word.{sum, difference, product, negation, andBits, orBits, xorBits, notBits};
-ghost use Rattle.word.specs.Word.{signed, word, comparison, relatedToZero, quotient, power, shiftLeft, shiftRight};
+ghost use Rattle.word.specs.Word.{wrap, signed, word, related, relatedToZero, comparison, value, quotient, power, shiftLeft, shiftRight};
 ghost use Rattle.word.specs.Answers.{outcome};
-ghost use Rattle.word.specs.Internal.{PowerOf};
+ghost use Rattle.word.specs.Internal.{Divides, PowerOf};
 
 // How two words may relate, or one word to zero: = # < <= > >=.
 pub enum Relation {
@@ -14,6 +16,9 @@ pub enum Relation {
     Greater,
     AtLeast,
 }
+
+// A shift count is below this.
+const SHIFT_COUNTS: u32 = 32;
 
 // What an operation that may fault answers. specs/Answers.antt gives each case its number.
 pub enum Answer {
@@ -97,10 +102,23 @@ pub fn bit_not(a: u32) -> u32
     !a
 }
 
+// Comparison goes by the integers themselves: their difference could wrap.
+fn below(a: u32, b: u32) -> bool
+    ensures { λ r. ⌜ r ≡ related Relation.Less a b ⌝ }
+{
+    to_signed(a) < to_signed(b)
+}
+
+fn at_most(a: u32, b: u32) -> bool
+    ensures { λ r. ⌜ r ≡ related Relation.AtMost a b ⌝ }
+{
+    to_signed(a) <= to_signed(b)
+}
+
 pub fn cmp(a: u32, b: u32) -> u32
     ensures { λ r. ⌜ r ≡ comparison a b ⌝ }
 {
-    if to_signed(a) < to_signed(b) {
+    if below(a, b) {
         return 4294967295;
     }
     if a == b {
@@ -115,14 +133,35 @@ pub fn to_zero(relation: Relation, a: u32) -> bool
     match relation {
         Relation::Equal => a == 0,
         Relation::Unequal => a != 0,
-        Relation::Less => to_signed(a) < 0,
-        Relation::AtMost => to_signed(a) <= 0,
-        Relation::Greater => 0 < to_signed(a),
-        Relation::AtLeast => 0 <= to_signed(a),
+        Relation::Less => below(a, 0),
+        Relation::AtMost => at_most(a, 0),
+        Relation::Greater => below(0, a),
+        Relation::AtLeast => at_most(0, a),
     }
 }
 
-// Division by -1 is the negation, so that the least word's quotient wraps to itself; every other quotient is a word.
+// Division by -1 is the negation, so that the least word's quotient wraps to itself.
+fn by_minus_one(a: u32) -> Answer
+    ensures { λ r. ⌜ outcome r ≡ value (negation a) ⌝ }
+{
+    Answer::Value(neg(a))
+}
+
+fn divide(x: i32, y: i32) -> i32
+    requires { ⌜ Divides x y ⌝ }
+    ensures { λ r. ⌜ r ≡ quotZ x y ⌝ }
+{
+    x / y
+}
+
+// Any other quotient is in the range of words.
+fn by_other(a: u32, b: u32) -> Answer
+    requires { ⌜ (b ≡ 0 → ⊥) × (b ≡ 4294967295 → ⊥) ⌝ }
+    ensures { λ r. ⌜ outcome r ≡ value (word (quotZ (signed a) (signed b))) ⌝ }
+{
+    Answer::Value(to_word(divide(to_signed(a), to_signed(b))))
+}
+
 pub fn div(a: u32, b: u32) -> Answer
     ensures { λ r. ⌜ outcome r ≡ quotient a b ⌝ }
 {
@@ -130,9 +169,9 @@ pub fn div(a: u32, b: u32) -> Answer
         return Answer::ZeroDivisor;
     }
     if b == 4294967295 {
-        return Answer::Value(neg(a));
+        return by_minus_one(a);
     }
-    Answer::Value(to_word(to_signed(a) / to_signed(b)))
+    by_other(a, b)
 }
 
 // A power, and the number of products that it took.
@@ -164,20 +203,26 @@ fn power_of(a: u32, n: u32) -> Power
     }
 }
 
+fn by_squaring(a: u32, n: u32) -> Answer
+    ensures { λ r. ⌜ outcome r ≡ value (wrap (a ^ n)) ⌝ }
+{
+    let p = power_of(a, n);
+    Answer::Value(p.word)
+}
+
 pub fn pow(a: u32, n: u32) -> Answer
     ensures { λ r. ⌜ outcome r ≡ power a n ⌝ }
 {
-    if to_signed(n) < 0 {
+    if below(n, 0) {
         return Answer::NegativeExponent;
     }
-    let p = power_of(a, n);
-    Answer::Value(p.word)
+    by_squaring(a, n)
 }
 
 pub fn shl(a: u32, n: u32) -> Answer
     ensures { λ r. ⌜ outcome r ≡ shiftLeft a n ⌝ }
 {
-    if n < 32 {
+    if n < SHIFT_COUNTS {
         Answer::Value(a << n)
     } else {
         Answer::ShiftCount
@@ -187,7 +232,7 @@ pub fn shl(a: u32, n: u32) -> Answer
 pub fn shr(a: u32, n: u32) -> Answer
     ensures { λ r. ⌜ outcome r ≡ shiftRight a n ⌝ }
 {
-    if n < 32 {
+    if n < SHIFT_COUNTS {
         Answer::Value(a >> n)
     } else {
         Answer::ShiftCount

@@ -17,7 +17,7 @@ returns : tie.Need-returns
 returns c = signed-toZ (c .before .args .a)
 
 returns-2 : tie.Need-returns-2
-returns-2 c = let a = c .before .args .a in held a _ (omega arith) (mirrored a (c .if1 .left))
+returns-2 c = let a = c .before .args .a in held a _ (c .before .fits .a .fits) (mirrored a (c .if1 .left))
 
 pub to-signed-spec : {M : Type 1} → statement M
 to-signed-spec =
