@@ -41,9 +41,9 @@ pub by-test : {P : Type 0} (t : Bool) → (t ≡ true → P) → (t ≡ false �
 by-test true y n = y refl
 by-test false y n = n refl
 
--- the same for an order and an equation of numbers
-pub by-order : {P : Type 0} (a b : ℕ) → (a < b → P) → (b ≤ a → P) → P
-by-order a b y n = by-test (ltb a b) (λ e. y (ltb-true a b e)) (λ e. n (ltb-false a b e))
+-- the same for two numbers, by whether one is less, or by whether they are equal
+pub by-less : {P : Type 0} (a b : ℕ) → (a < b → P) → (b ≤ a → P) → P
+by-less a b y n = by-test (ltb a b) (λ e. y (ltb-true a b e)) (λ e. n (ltb-false a b e))
 
 pub by-equal : {P : Type 0} (a b : ℕ) → (a ≡ b → P) → ((a ≡ b → ⊥) → P) → P
 by-equal a b y n = by-test (eqb a b) (λ e. y (eqb-true a b e)) (λ e. n (eqb-false a b e))

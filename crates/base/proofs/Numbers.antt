@@ -1,7 +1,7 @@
 -- Laws of numbers that the kit lacks.
-use Prim.Native.Nat.{ℕ, zero, suc, _+_, _-_, _*_, _/_, _%_, _^_, _<_, _≤_}
-use mathlib.Core.Path.{_≡_, refl, sym, ap, _∙_, subst⁻¹}
-use native.Mathlib.Nat.{mul-comm, mul-assoc, add-comm, add-mul-mod-self-right, mod-add-div', add-mul, pow-zero, pow-suc}
+use Prim.Native.Nat.{ℕ, zero, suc, _+_, _*_, _/_, _%_, _^_, _<_}
+use mathlib.Core.Path.{_≡_, sym, ap, _∙_, subst⁻¹}
+use native.Mathlib.Nat.{mul-comm, mul-assoc, add-mul-mod-self-right, mod-add-div', add-mul, pow-zero, pow-suc}
 use native.Mathlib.Nat.{le-of-lt, lt-of-le-of-lt, mul-le-mul-left, mul-lt-mul-of-pos-right}
 use lib.Pow.{pow-add, pow-pos}
 

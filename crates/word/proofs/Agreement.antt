@@ -1,33 +1,35 @@
 -- The operations on patterns agree with the integers that the patterns stand for. For each operation of document 01's
 -- "Word arithmetic" one theorem; `wrapped` and `TowardZero` are of specs/Integers.antt.
-use Prim.Native.Nat.{ℕ, zero, suc, _+_, _-_, _*_, _/_, _%_, _^_, _<_, _≤_, min, max}
+use Prim.Native.Nat.{ℕ, _+_, _-_, _/_, _%_, _^_, _<_, _≤_, min, max}
 use mathlib.Core.Path.{_≡_, refl, sym, ap, ap₂, _∙_}
-use mathlib.Core.Bool.{_&&_}
+use mathlib.Core.Bool.{false, _&&_}
 use mathlib.Core.Logic.{_↔_}
 use native.Mathlib.Omega.{arith}
-use native.Mathlib.Nat.{pow-succ', div-div-eq-div-mul, div-le-self}
-use borrow.Author.Tests.{ne-eqb, le-ltb}
+use native.Mathlib.Nat.{div-eq-of-lt, lt-of-lt-of-le}
+use lib.Pow.{pow-mono}
+use borrow.Author.Tests.{ne-eqb, lt-ltb, le-ltb}
 use lib.Dec.{ltb, leb·zero}
 use lib.IntN.{ℤ, pos, negsuc, negℤ, _+ℤ_, _-ℤ_, _*ℤ_, pow}
 use lib.Signed.{mag, ltZ, leZ, quotZ}
 use Rattle.base.specs.Choice.{pick}
-use Rattle.base.proofs.Cases.{by-order}
-use Rattle.word.specs.Word.{wrap, signed, word, sum, difference, product, negation, quotient, value}
-use Rattle.word.specs.Word.{bit, andBits, orBits, xorBits, notBits, comparison, related}
-use Rattle.word.specs.Integers.{wrapped, TowardZero, order}
+use Rattle.base.proofs.Cases.{by-less}
+use Rattle.word.specs.Word.{wrap, signed, word, sum, difference, product, negation, quotient, power, shiftLeft, shiftRight, value, fault}
+use Rattle.word.specs.Word.{andBits, orBits, xorBits, notBits, comparison, related}
+use Rattle.word.specs.Integers.{wrapped, TowardZero, compared, bit}
 use Rattle.word.specs.declared.Relation.{Relation}
-use Rattle.word.proofs.Reading.{word-small, signed-small, signed-word, word-signed, signed-equal, signed-low, signed-high}
+use Rattle.word.proofs.Reading.{word-small, signed-small, signed-word, word-signed, signed-equal, signed-low, signed-high, signed-pos}
 use Rattle.word.proofs.Wrapping.{word-sum, word-difference, word-product, word-negation, word-power, word-pos, wrap-right}
 use Rattle.word.proofs.Quotient.{drops-remainder, drops-remainder-only, quotient-in-range, signed-not-zero, word-by-minus-one}
-use Rattle.word.proofs.Bits.{bitwise-at}
+use Rattle.word.proofs.Bits.{bitwise-at, bit-shifted}
 use Rattle.word.proofs.SignedType.{less-one-pos, less-one-negsuc}
-use Rattle.word.proofs.Comparison.{comparison-order, relation-to-zero}
+use Rattle.word.proofs.Comparison.{comparison-compared, relation-to-zero}
 
-shifted-small : (a n : ℕ) → a < 4294967296 → 0 < n → a / 2 ^ n < 2147483648
-shifted-small a zero h more = absurd (omega arith)
-shifted-small a (suc n) h more =
-    let halved : a / 2 ^ suc n ≡ a / 2 / 2 ^ n = ap (λ k. a / k) (pow-succ' 2 n) ∙ sym (div-div-eq-div-mul a 2 (2 ^ n)) in
-    omega (arith, div-le-self (a / 2) (2 ^ n))
+-- the test of a shift count says whether its reading is 0 to 31
+shift-count : (n : ℕ) → ltb n 32 ≡ (leZ (pos 0) (signed n) && ltZ (signed n) (pos 32))
+shift-count n =
+    by-less n 2147483648
+    (λ l. rw (signed-low n l, leb·zero n))
+    (λ g. rw (signed-high n g) (le-ltb n 32 (omega arith)))
 
 -- ---- what `wrapped` is: in range, nothing to an integer in range, and the same for integers 2 to the 32 apart
 
@@ -62,9 +64,16 @@ pub negation-agrees : (a : ℕ) → a < 4294967296 → signed (negation a) ≡ w
 unfolding wrapped
 negation-agrees a h = ap signed (sym (word-negation (signed a) ∙ ap negation (word-signed a h)))
 
-pub power-agrees : (a n : ℕ) → a < 4294967296 → signed (wrap (a ^ n)) ≡ wrapped (pow (signed a) n)
-unfolding wrapped
-power-agrees a n h = ap signed (sym (word-power (signed a) n ∙ ap (λ k. wrap (k ^ n)) (word-signed a h)))
+-- an exponent that is not negative, and one that is: "2 negative exponent"
+pub power-agrees : (a n k : ℕ) → a < 4294967296 → signed n ≡ pos k → power a n ≡ value (word (pow (signed a) k))
+unfolding power pick signed
+power-agrees a n k h e =
+    rw (e, le-ltb k 0 (omega arith))
+    (ap value (sym (word-power (signed a) k ∙ ap₂ (λ x m. wrap (x ^ m)) (word-signed a h) (sym (signed-pos n k e)))))
+
+pub power-faults : (a n k : ℕ) → signed n ≡ negsuc k → power a n ≡ fault 2
+unfolding power pick signed
+power-faults a n k e = rw e
 
 -- ---- "`/` drops the remainder ..; the least word divided by -1 wraps to itself."
 
@@ -95,27 +104,31 @@ least-by-minus-one = refl
 
 -- ---- "Shifts are logical." "shift count outside 0..31"
 
-pub shift-left-agrees : (a n : ℕ) → a < 4294967296 → signed (wrap (a * 2 ^ n)) ≡ wrapped (signed a *ℤ pos (2 ^ n))
-unfolding wrapped product
-shift-left-agrees a n h =
-    ap signed (sym (word-product (signed a) (pos (2 ^ n)) ∙ ap₂ product (word-signed a h) (word-pos (2 ^ n)) ∙ wrap-right a (2 ^ n)))
+pub shift-left-agrees : (a n : ℕ) → a < 4294967296 → n < 32 → shiftLeft a n ≡ value (word (signed a *ℤ pos (2 ^ n)))
+unfolding shiftLeft pick product
+shift-left-agrees a n h count =
+    rw (lt-ltb n 32 count)
+    (ap value (sym (word-product (signed a) (pos (2 ^ n)) ∙ ap₂ product (word-signed a h) (word-pos (2 ^ n)) ∙ wrap-right a (2 ^ n))))
 
--- a shift to the right by one or more fills with zeros, so that what it gives is not negative
-pub shift-right-agrees : (a n : ℕ) → a < 4294967296 → 0 < n → signed (a / 2 ^ n) ≡ pos (a / 2 ^ n)
-shift-right-agrees a n h more = signed-low (a / 2 ^ n) (shifted-small a n h more)
+-- each bit moves by n places, with zeros behind the highest
+pub shift-right-agrees : (a n : ℕ) → n < 32 → (w : ℕ) × (shiftRight a n ≡ value w) × ((i : ℕ) → bit i w ≡ bit (n + i) a)
+unfolding shiftRight pick
+shift-right-agrees a n count = (a / 2 ^ n, rw (lt-ltb n 32 count), λ i. bit-shifted n i a)
 
-pub shift-count-agrees : (n : ℕ) → ltb n 32 ≡ (leZ (pos 0) (signed n) && ltZ (signed n) (pos 32))
-shift-count-agrees n =
-    by-order n 2147483648
-    (λ l. rw (signed-low n l, leb·zero n))
-    (λ g. rw (signed-high n g) (le-ltb n 32 (omega arith)))
+pub no-bit-behind : (a i : ℕ) → a < 4294967296 → 32 ≤ i → bit i a ≡ 0
+unfolding bit
+no-bit-behind a i h behind = ap (λ k. k % 2) (div-eq-of-lt (lt-of-lt-of-le h (pow-mono behind)))
+
+pub shift-faults : (a n : ℕ) → (leZ (pos 0) (signed n) && ltZ (signed n) (pos 32)) ≡ false → (shiftLeft a n ≡ fault 3) × (shiftRight a n ≡ fault 3)
+unfolding shiftLeft shiftRight pick
+shift-faults a n e = rw (shift-count n ∙ e) (refl, refl)
 
 -- ---- `\`, and the operations on two words bit by bit
 
 pub not-agrees : (a : ℕ) → a < 4294967296 → signed (notBits a) ≡ negsuc 0 -ℤ signed a
 unfolding notBits
 not-agrees a h =
-    by-order a 2147483648
+    by-less a 2147483648
     (λ l. rw (signed-low a l, signed-high (4294967295 - a) (omega arith), less-one-pos a) (ap negsuc (omega arith)))
     (λ g. rw (signed-high a g, signed-low (4294967295 - a) (omega arith), less-one-negsuc (4294967295 - a)))
 
@@ -134,8 +147,8 @@ module _ (i a b : ℕ) (within : i < 32) where
 
 -- ---- "Comparison is signed and never wraps."
 
-pub comparison-agrees : (a b : ℕ) → a < 4294967296 → b < 4294967296 → signed (comparison a b) ≡ order (signed a) (signed b)
-comparison-agrees a b small-a small-b = comparison-order a b small-a small-b
+pub comparison-agrees : (a b : ℕ) → a < 4294967296 → b < 4294967296 → signed (comparison a b) ≡ compared (signed a) (signed b)
+comparison-agrees a b small-a small-b = comparison-compared a b small-a small-b
 
 -- CMP, then a test against zero, is the relation of the two words
 pub relation-agrees : (r : Relation) (a b : ℕ) → a < 4294967296 → b < 4294967296 → related r (comparison a b) 0 ≡ related r a b

@@ -3,8 +3,10 @@ use Prim.Native.Nat.{ℕ, zero, suc, _+_, _*_, _/_, _%_, _^_, _<_, min, max}
 use mathlib.Core.Path.{_≡_, refl, sym, ap, ap₂, _∙_}
 use native.Mathlib.Omega.{arith}
 use native.Mathlib.Nat.{pow-suc, pow-succ', div-div-eq-div-mul, div-one}
+use lib.Pow.{pow-add}
 use lib.Bits.{bitAnd, bitOr, bitXor, differ, and-step, or-step, xor-step}
-use Rattle.word.specs.Word.{bitwise, andBits, orBits, xorBits, bit}
+use Rattle.word.specs.Word.{bitwise, andBits, orBits, xorBits}
+use Rattle.word.specs.Integers.{bit}
 
 half-below : (k a : ℕ) → a < 2 ^ suc k → a / 2 < 2 ^ k
 half-below k a h = omega (arith, rw (pow-suc 2 k) at h)
@@ -47,6 +49,11 @@ xor-is a b h l = bitwise-is (λ x y. (x + y) % 2) bitXor step refl 32 a b h l
 bit-suc : (i a : ℕ) → bit (suc i) a ≡ bit i (a / 2)
 unfolding bit
 bit-suc i a = ap (λ n. a / n % 2) (pow-succ' 2 i) ∙ ap (λ n. n % 2) (sym (div-div-eq-div-mul a 2 (2 ^ i)))
+
+-- a shift to the right moves each bit
+pub bit-shifted : (n i a : ℕ) → bit i (a / 2 ^ n) ≡ bit (n + i) a
+unfolding bit
+bit-shifted n i a = ap (λ k. k % 2) (div-div-eq-div-mul a (2 ^ n) (2 ^ i) ∙ ap (λ k. a / k) (sym (pow-add 2 n i)))
 
 -- each bit of what is made bit by bit
 pub bitwise-at :

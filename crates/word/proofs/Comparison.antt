@@ -1,5 +1,5 @@
 -- Of two words one is below the other or they are equal, and that decides every relation.
-use Prim.Native.Nat.{ℕ, zero, suc, _<_, _≤_}
+use Prim.Native.Nat.{ℕ, _<_}
 use mathlib.Core.Path.{_≡_, refl, sym, ap, _∙_}
 use mathlib.Core.Bool.{Bool, true, false, not, true≢false}
 use native.Mathlib.Omega.{arith}
@@ -8,9 +8,9 @@ use lib.Dec.{ltb, leb, eqb}
 use lib.IntN.{ℤ, pos, negsuc}
 use lib.Signed.{ltZ, leZ}
 use Rattle.base.specs.Choice.{pick}
-use Rattle.base.proofs.Cases.{by-test, by-order, by-equal}
+use Rattle.base.proofs.Cases.{by-test, by-less, by-equal}
 use Rattle.word.specs.Word.{signed, word, wrap, comparison, related}
-use Rattle.word.specs.Integers.{order}
+use Rattle.word.specs.Integers.{compared}
 use Rattle.word.specs.declared.Relation.{Relation}
 use Rattle.word.specs.declared.Relation.the-variants.{Equal, Unequal, Less, AtMost, Greater, AtLeast}
 use Rattle.word.proofs.Reading.{signed-equal}
@@ -18,7 +18,7 @@ use Rattle.word.proofs.Reading.{signed-equal}
 -- ---- the tests of order on the integers
 
 leb-not : (m n : ℕ) → leb m n ≡ not (ltb n m)
-leb-not m n = by-order n m (λ l. lt-leb m n l ∙ sym (ap not (lt-ltb n m l))) (λ g. le-leb m n g ∙ sym (ap not (le-ltb n m g)))
+leb-not m n = by-less n m (λ l. lt-leb m n l ∙ sym (ap not (lt-ltb n m l))) (λ g. le-leb m n g ∙ sym (ap not (le-ltb n m g)))
 
 at-most-not : (x y : ℤ) → leZ x y ≡ not (ltZ y x)
 at-most-not (pos a) (pos b) = leb-not a b
@@ -37,10 +37,10 @@ not-below-both (negsuc a) (pos b) h = refl
 not-below-both (negsuc a) (negsuc b) h = le-ltb a b (omega (arith, ltb-true b a h))
 
 apart : (x y : ℤ) → ltZ x y ≡ false → (x ≡ y → ⊥) → ltZ y x ≡ true
-apart (pos a) (pos b) h ne = by-order b a (λ l. lt-ltb b a l) (λ g. absurd (ne (ap pos (omega (arith, ltb-false a b h)))))
+apart (pos a) (pos b) h ne = by-less b a (λ l. lt-ltb b a l) (λ g. absurd (ne (ap pos (omega (arith, ltb-false a b h)))))
 apart (pos a) (negsuc b) h ne = refl
 apart (negsuc a) (pos b) h ne = sym h
-apart (negsuc a) (negsuc b) h ne = by-order a b (λ l. lt-ltb a b l) (λ g. absurd (ne (ap negsuc (omega (arith, ltb-false b a h)))))
+apart (negsuc a) (negsuc b) h ne = by-less a b (λ l. lt-ltb a b l) (λ g. absurd (ne (ap negsuc (omega (arith, ltb-false b a h)))))
 
 -- ---- the place of one word against another
 
@@ -99,7 +99,7 @@ verdict Greater p = isAbove p
 verdict AtLeast p = not (isBelow p)
 
 related-is : (r : Relation) (a b : ℕ) (p : Place) → Placed a b p → related r a b ≡ verdict r p
-unfolding related verdict
+unfolding verdict
 related-is Equal a b p d = d .equal
 related-is Unequal a b p d = ap not (d .equal)
 related-is Less a b p d = d .lower
@@ -114,7 +114,7 @@ number level = 0
 number above = 1
 
 comparison-is : (a b : ℕ) (p : Place) → Placed a b p → comparison a b ≡ number p
-unfolding comparison related number word wrap pick isBelow isLevel
+unfolding comparison number word wrap pick isBelow isLevel
 comparison-is a b below d = rw (d .lower)
 comparison-is a b level d = rw (d .lower, d .equal)
 comparison-is a b above d = rw (d .lower, d .equal)
@@ -125,11 +125,11 @@ number-placed below = record { lower = refl; equal = refl; higher = refl }
 number-placed level = record { lower = refl; equal = refl; higher = refl }
 number-placed above = record { lower = refl; equal = refl; higher = refl }
 
-order-is : (a b : ℕ) (p : Place) → Placed a b p → order (signed a) (signed b) ≡ signed (number p)
-unfolding order number isBelow isAbove signed pick
-order-is a b below d = rw (d .lower)
-order-is a b level d = rw (d .lower, d .higher)
-order-is a b above d = rw (d .lower, d .higher)
+compared-is : (a b : ℕ) (p : Place) → Placed a b p → compared (signed a) (signed b) ≡ signed (number p)
+unfolding compared number isBelow isAbove signed pick
+compared-is a b below d = rw (d .lower)
+compared-is a b level d = rw (d .lower, d .higher)
+compared-is a b above d = rw (d .lower, d .higher)
 
 module _ (a b : ℕ) (small-a : a < 4294967296) (small-b : b < 4294967296) where
   pub relation-to-zero : (r : Relation) → related r (comparison a b) 0 ≡ related r a b
@@ -137,5 +137,5 @@ module _ (a b : ℕ) (small-a : a < 4294967296) (small-b : b < 4294967296) where
       by-place a b small-a small-b
       (λ p d. ap (λ n. related r n 0) (comparison-is a b p d) ∙ related-is r (number p) 0 p (number-placed p) ∙ sym (related-is r a b p d))
 
-  pub comparison-order : signed (comparison a b) ≡ order (signed a) (signed b)
-  comparison-order = by-place a b small-a small-b (λ p d. ap signed (comparison-is a b p d) ∙ sym (order-is a b p d))
+  pub comparison-compared : signed (comparison a b) ≡ compared (signed a) (signed b)
+  comparison-compared = by-place a b small-a small-b (λ p d. ap signed (comparison-is a b p d) ∙ sym (compared-is a b p d))

@@ -6,7 +6,7 @@ use native.Mathlib.Nat.{div-one, div-le-self, div-lt-self, div-add-mod', mod-lt,
 use lib.IntN.{ℤ, pos, negsuc, negℤ, natAbs, _+ℤ_, _*ℤ_, negℤ-+ℤ, pos-ne-negsuc}
 use lib.Arith.{digits-div}
 use borrow.Author.Tests.{lt-ltb, le-ltb}
-use Rattle.base.proofs.Cases.{by-order}
+use Rattle.base.proofs.Cases.{by-less}
 use lib.Signed.{mag, quotZ}
 use mir.Syntax.{w32}
 use mir.Val.{toZ, ofZ, SFits}
@@ -128,14 +128,14 @@ below-and-above : (n a : ℕ) (r : ℤ) → 0 < n → pos a ≡ negℤ (pos n) +
 below-and-above zero a r h e s = omega arith
 below-and-above (suc n) a (negsuc r) h e s = pos-ne-negsuc a (suc (n + r)) e
 below-and-above (suc n) a (pos r) h e s =
-    by-order r (suc n)
+    by-less r (suc n)
     (λ l. pos-ne-negsuc a (suc n - suc r) (rw (lt-ltb r (suc n) l) at e))
     (λ g. let d : a ≡ r - suc n = ap natAbs (rw (le-ltb r (suc n) g) at e) in omega arith)
 
 above-and-below : (n a : ℕ) (r : ℤ) → 0 < n → negsuc a ≡ pos n +ℤ r → suc a ≡ n + natAbs r → ⊥
 above-and-below n a (pos r) h e s = pos-ne-negsuc (n + r) a (sym e)
 above-and-below n a (negsuc r) h e s =
-    by-order n (suc r)
+    by-less n (suc r)
     (λ l. let d : suc a ≡ suc (suc r - suc n) = ap natAbs (rw (lt-ltb n (suc r) l) at e) in omega arith)
     (λ g. pos-ne-negsuc (n - suc r) a (sym (rw (le-ltb n (suc r) g) at e)))
 

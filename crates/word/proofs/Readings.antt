@@ -1,9 +1,9 @@
 -- The table of starred readings, by computation.
 use mathlib.Core.Path.{refl}
 use Rattle.base.specs.Choice.{pick}
-use Rattle.word.specs.Word.{wrap, signed, word, related, sum, product, negation, bitwise, xorBits, notBits, quotient, power, shiftRight}
+use Rattle.word.specs.Word.{wrap, signed, word, sum, product, negation, bitwise, xorBits, notBits, quotient, power, shiftRight}
 use Rattle.word.specs.Readings.{after, reading, readings, AllRead}
 
 pub all-read : AllRead
-unfolding readings reading after pick wrap signed word related sum product negation bitwise xorBits notBits quotient power shiftRight
+unfolding readings reading after pick wrap signed word sum product negation bitwise xorBits notBits quotient power shiftRight
 all-read = refl

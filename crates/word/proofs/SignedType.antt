@@ -1,17 +1,17 @@
 -- What the functions that go through an i32 need: the machine keeps an i32 as its bits, `ofZ w32`, and reads it by `toZ w32`.
-use Prim.Native.Nat.{ℕ, zero, suc, _+_, _-_, _%_, _<_, _≤_}
-use mathlib.Core.Path.{_≡_, refl, sym, ap, _∙_, subst}
-use mathlib.Core.Bool.{Bool, true, false}
+use Prim.Native.Nat.{ℕ, zero, suc, _-_, _<_, _≤_}
+use mathlib.Core.Path.{_≡_, refl, ap}
+use mathlib.Core.Bool.{true, false}
 use native.Mathlib.Omega.{arith}
 use borrow.Author.Tests.{le-ltb, leb-false}
-use lib.Dec.{T, ltb}
-use lib.IntN.{ℤ, pos, negsuc, negℤ, natAbs, _+ℤ_, _-ℤ_, subℕ}
+use lib.Dec.{T}
+use lib.IntN.{ℤ, pos, negsuc, negℤ, natAbs, _-ℤ_}
 use lib.Signed.{mag, leZ, nonNeg}
 use mir.Syntax.{w32}
 use mir.Val.{toZ, ofZ, Fits, SFits}
 use mir.Facts.{toZ-ofZ}
 use lib.IntN.{+ℤ-idl}
-use Rattle.base.proofs.Cases.{by-order}
+use Rattle.base.proofs.Cases.{by-less}
 use Rattle.word.specs.Word.{wrap, signed, word, negation}
 use Rattle.word.proofs.Reading.{signed-low, signed-high, signed-small, signed-toZ, word-signed}
 use Rattle.word.proofs.Wrapping.{word-negation}
@@ -68,7 +68,7 @@ opposite-small (suc n) = omega arith
 
 negation-small : (a : ℕ) → a < 4294967296 → (a ≡ 2147483648 → ⊥) → mag (negℤ (signed a)) < 2147483648
 negation-small a h least =
-    by-order a 2147483648
+    by-less a 2147483648
     (λ l. rw (signed-low a l) (omega (arith, opposite-small a)))
     (λ g. rw (signed-high a g) (omega arith))
 

@@ -1,24 +1,24 @@
 -- Power by repeated squaring: what stays the same in a turn of the loop, and how many products it takes.
-use Prim.Native.Nat.{ℕ, zero, suc, _+_, _-_, _*_, _/_, _%_, _^_, _<_, _≤_}
-use mathlib.Core.Path.{_≡_, refl, sym, ap, _∙_, subst}
+use Prim.Native.Nat.{ℕ, zero, suc, _+_, _*_, _/_, _%_, _^_, _<_, _≤_}
+use mathlib.Core.Path.{_≡_, sym, ap, _∙_}
 use native.Mathlib.Omega.{arith}
-use native.Mathlib.Nat.{mul-comm, mul-assoc, mul-one, pow-zero, pow-suc, pow-succ', mul-le-mul-right, le-trans, one-mul, le-of-eq}
+use native.Mathlib.Nat.{mul-comm, mul-assoc, mul-one, pow-zero, pow-suc, pow-succ', mul-le-mul-right, one-mul, le-of-eq}
 use lib.Pow.{pow-add, pow-mono}
-use Rattle.base.proofs.Cases.{by-order}
+use Rattle.base.proofs.Cases.{by-less}
 use Rattle.base.proofs.Numbers.{pow-square}
 use Rattle.word.specs.Word.{wrap, product}
 use Rattle.word.specs.Internal.{PowerOf}
-use Rattle.word.proofs.Wrapping.{wrap-left, wrap-both, wrap-right, wrap-wrap, wrap-small}
+use Rattle.word.proofs.Wrapping.{wrap-left, wrap-right, wrap-small}
 
 -- a base may be wrapped first
 wrap-power : (a n : ℕ) → wrap (wrap a ^ n) ≡ wrap (a ^ n)
 wrap-power a zero = ap wrap (pow-zero (wrap a) ∙ sym (pow-zero a))
 wrap-power a (suc n) =
     ap wrap (pow-suc (wrap a) n)
-    ∙ sym (wrap-both (wrap a ^ n) (wrap a))
-    ∙ ap (λ k. wrap (k * wrap (wrap a))) (wrap-power a n)
-    ∙ wrap-both (a ^ n) (wrap a)
-    ∙ wrap-right (a ^ n) a
+    ∙ wrap-right (wrap a ^ n) a
+    ∙ sym (wrap-left (wrap a ^ n) a)
+    ∙ ap (λ k. wrap (k * a)) (wrap-power a n)
+    ∙ wrap-left (a ^ n) a
     ∙ ap wrap (sym (pow-suc a n))
 
 -- the square of the base, with half the exponent
@@ -114,7 +114,7 @@ after-even a n acc base left products even more (turns, s) = (
 )
 
 turns-below : (turns limit : ℕ) → 2 ^ turns < 2 ^ limit → turns < limit
-turns-below turns limit h = by-order turns limit (λ l. l) (λ g. absurd (omega (arith, pow-mono g)))
+turns-below turns limit h = by-less turns limit (λ l. l) (λ g. absurd (omega (arith, pow-mono g)))
 
 -- the count of products is far from wrapping
 pub products-fit : (a n acc base left products : ℕ) → n < 4294967296 → Loop a n acc base left products → products ≤ 64

@@ -1,23 +1,20 @@
 -- `word` goes through the operations that wrap: the pattern of a sum is the sum of the patterns, and so on.
-use Prim.Native.Nat.{ℕ, zero, suc, _+_, _-_, _*_, _/_, _%_, _^_, _<_, _≤_}
-use mathlib.Core.Path.{_≡_, refl, sym, ap, ap₂, _∙_, subst}
-use mathlib.Core.Bool.{Bool, true, false, cond}
+use Prim.Native.Nat.{ℕ, zero, suc, _+_, _-_, _*_, _%_, _^_, _<_, _≤_}
+use mathlib.Core.Path.{_≡_, refl, sym, ap, ap₂, _∙_}
 use native.Mathlib.Omega.{arith}
 use native.Mathlib.Nat.{mul-comm, mul-sub, mul-le-mul-left, pow-zero, pow-suc}
 use borrow.Author.Tests.{lt-ltb, le-ltb}
-use lib.Dec.{ltb}
-use lib.IntN.{ℤ, pos, negsuc, negℤ, _+ℤ_, _-ℤ_, _*ℤ_, subℕ, pow, one}
-use Rattle.base.specs.Choice.{pick}
-use Rattle.base.proofs.Cases.{by-order}
+use lib.IntN.{ℤ, pos, negsuc, negℤ, _+ℤ_, _-ℤ_, _*ℤ_, subℕ, pow, one, *ℤ-comm}
+use Rattle.base.proofs.Cases.{by-less}
 use Rattle.base.proofs.Numbers.{mod-mul-left, mod-mul-right}
-use Rattle.word.specs.Word.{wrap, signed, word, sum, difference, product, negation}
+use Rattle.word.specs.Word.{wrap, word, sum, difference, product, negation}
 use Rattle.word.proofs.Reading.{word-small}
 
 -- a - b of two numbers
 word-minus : (a b : ℕ) → word (subℕ a b) ≡ wrap (a + (4294967296 - b % 4294967296))
 unfolding word wrap
 word-minus a b =
-    by-order a b
+    by-less a b
     (λ l. rw (lt-ltb a b l) (omega arith))
     (λ g. rw (le-ltb a b g) (omega arith))
 
@@ -41,26 +38,17 @@ word-difference x y =
     word-sum x (negℤ y) ∙ rw (word-negation y) (omega arith)
 
 -- a factor may be wrapped first
-pub wrap-left : (a b : ℕ) → product (wrap a) b ≡ wrap (a * b)
-unfolding wrap product
+pub wrap-left : (a b : ℕ) → wrap (wrap a * b) ≡ wrap (a * b)
+unfolding wrap
 wrap-left a b = mod-mul-left a b 4294967296
 
-pub wrap-product : (a b : ℕ) → product (wrap a) (wrap b) ≡ wrap (a * b)
-unfolding wrap product
-wrap-product a b = mod-mul-left a (b % 4294967296) 4294967296 ∙ mod-mul-right a b 4294967296
-
-pub wrap-wrap : (a : ℕ) → wrap (wrap a) ≡ wrap a
-unfolding wrap
-wrap-wrap a = omega arith
-
--- both factors may be wrapped first
-pub wrap-both : (a b : ℕ) → wrap (wrap a * wrap b) ≡ wrap (a * b)
-unfolding product
-wrap-both a b = wrap-product a b
-
--- the factor on the right alone
 pub wrap-right : (a b : ℕ) → wrap (a * wrap b) ≡ wrap (a * b)
-wrap-right a b = sym (wrap-both a (wrap b)) ∙ ap (λ n. wrap (wrap a * n)) (wrap-wrap b) ∙ wrap-both a b
+unfolding wrap
+wrap-right a b = mod-mul-right a b 4294967296
+
+wrap-both : (a b : ℕ) → product (wrap a) (wrap b) ≡ wrap (a * b)
+unfolding product
+wrap-both a b = wrap-left a (wrap b) ∙ wrap-right a b
 
 product-comm : (a b : ℕ) → product a b ≡ product b a
 unfolding product
@@ -93,26 +81,30 @@ word-pos n = refl
 word-negsuc : (n : ℕ) → word (negsuc n) ≡ negation (wrap (suc n))
 word-negsuc n = word-negation (pos (suc n)) ∙ ap negation (word-pos (suc n))
 
+-- a product with one negative factor, and with two
+pos-negsuc : (a b : ℕ) → word (pos a *ℤ negsuc b) ≡ product (word (pos a)) (word (negsuc b))
+pos-negsuc a b =
+    word-negation (pos (a * suc b))
+    ∙ ap negation (word-pos (a * suc b) ∙ sym (wrap-both a (suc b)))
+    ∙ sym (product-negation (wrap a) (wrap (suc b)) (wrap-small (suc b)))
+    ∙ sym (ap₂ product (word-pos a) (word-negsuc b))
+
+negsuc-negsuc : (a b : ℕ) → word (negsuc a *ℤ negsuc b) ≡ product (word (negsuc a)) (word (negsuc b))
+negsuc-negsuc a b =
+    word-pos (suc a * suc b)
+    ∙ sym (wrap-both (suc a) (suc b))
+    ∙ sym (negation-negation (product (wrap (suc a)) (wrap (suc b))) (product-small (wrap (suc a)) (wrap (suc b))))
+    ∙ ap negation (sym (product-negation (wrap (suc a)) (wrap (suc b)) (wrap-small (suc b))) ∙ product-comm (wrap (suc a)) (negation (wrap (suc b))))
+    ∙ sym (product-negation (negation (wrap (suc b))) (wrap (suc a)) (wrap-small (suc a)))
+    ∙ product-comm (negation (wrap (suc b))) (negation (wrap (suc a)))
+    ∙ sym (ap₂ product (word-negsuc a) (word-negsuc b))
+
 pub word-product : (x y : ℤ) → word (x *ℤ y) ≡ product (word x) (word y)
-word-product (pos a) (pos b) = rw (word-pos a, word-pos b, word-pos (a * b), wrap-product a b)
-word-product (pos a) (negsuc b) =
-    rw (word-negation (pos (a * suc b)), word-pos a, word-negsuc b, product-negation (wrap a) (wrap (suc b)) (wrap-small (suc b)), wrap-product a (suc b), word-pos (a * suc b))
+word-product (pos a) (pos b) = word-pos (a * b) ∙ sym (ap₂ product (word-pos a) (word-pos b) ∙ wrap-both a b)
+word-product (pos a) (negsuc b) = pos-negsuc a b
 word-product (negsuc a) (pos b) =
-    rw (word-negation (pos (suc a * b)), word-pos b, word-negsuc a, product-comm (negation (wrap (suc a))) (wrap b), product-negation (wrap b) (wrap (suc a)) (wrap-small (suc a)), product-comm (wrap b) (wrap (suc a)), wrap-product (suc a) b, word-pos (suc a * b))
-word-product (negsuc a) (negsuc b) = rw (word-pos (suc a * suc b), word-negsuc a, word-negsuc b) (sym two)
-  where
-    A : ℕ
-    A = wrap (suc a)
-
-    B : ℕ
-    B = wrap (suc b)
-
-    two : product (negation A) (negation B) ≡ wrap (suc a * suc b)
-    two =
-        product-negation (negation A) B (wrap-small (suc b))
-        ∙ ap negation (product-comm (negation A) B ∙ product-negation B A (wrap-small (suc a)) ∙ ap negation (product-comm B A))
-        ∙ negation-negation (product A B) (product-small A B)
-        ∙ wrap-product (suc a) (suc b)
+    ap word (*ℤ-comm (negsuc a) (pos b)) ∙ pos-negsuc b a ∙ product-comm (word (pos b)) (word (negsuc a))
+word-product (negsuc a) (negsuc b) = negsuc-negsuc a b
 
 -- a power of a word's pattern is the pattern of the power
 pub word-power : (x : ℤ) (n : ℕ) → word (pow x n) ≡ wrap (word x ^ n)
@@ -121,5 +113,5 @@ word-power x zero = rw pow-zero (word-pos 1)
 word-power x (suc n) =
     word-product (pow x n) x
     ∙ ap (λ k. product k (word x)) (word-power x n)
-    ∙ wrap-left (word x ^ n) (word x)
+    ∙ unfold product in wrap-left (word x ^ n) (word x)
     ∙ ap wrap (sym (pow-suc (word x) n))

@@ -1,5 +1,5 @@
 -- What the theorems of proofs/Agreement.antt say of words in terms of the integers that they stand for.
-use Prim.Native.Nat.{ℕ, _+_, _<_}
+use Prim.Native.Nat.{ℕ, _+_, _/_, _%_, _^_, _<_}
 use mathlib.Core.Path.{_≡_}
 use lib.IntN.{ℤ, pos, negsuc, natAbs, _+ℤ_, _*ℤ_}
 use lib.Signed.{ltZ}
@@ -17,6 +17,10 @@ pub record TowardZero (x y q : ℤ) : Type 0 where
   pub nearer : natAbs rest < natAbs y
   pub side : natAbs x ≡ natAbs (q *ℤ y) + natAbs rest
 
--- -1, 0 or 1 as x is below, at or above y
-unfoldable pub order : ℤ → ℤ → ℤ
-order x y = pick (ltZ x y) (negsuc 0) (pick (ltZ y x) (pos 1) (pos 0))
+-- -1, 0 or 1 as x is below y, equal to it or above it
+unfoldable pub compared : ℤ → ℤ → ℤ
+compared x y = pick (ltZ x y) (negsuc 0) (pick (ltZ y x) (pos 1) (pos 0))
+
+-- the bit of a pattern at place i, from 0
+unfoldable pub bit : ℕ → ℕ → ℕ
+bit i a = a / 2 ^ i % 2

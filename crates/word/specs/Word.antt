@@ -24,7 +24,7 @@ unfoldable pub word : ℤ → ℕ
 word (pos n) = wrap n
 word (negsuc n) = 4294967295 - wrap n
 
--- ---- "Sum, difference, product, negation and power wrap."
+-- ---- "Sum, difference, product, negation and power wrap." (power is below)
 
 unfoldable pub sum : ℕ → ℕ → ℕ
 sum a b = wrap (a + b)
@@ -38,11 +38,7 @@ product a b = wrap (a * b)
 unfoldable pub negation : ℕ → ℕ
 negation a = wrap (4294967296 - a)
 
--- ---- & ! !! \ : bit by bit
-
--- the bit at place i, from 0
-unfoldable pub bit : ℕ → ℕ → ℕ
-bit i a = a / 2 ^ i % 2
+-- ---- `&`, `!`, `!!` and `\`, bit by bit
 
 -- f of the two bits at each of the lowest k places
 unfoldable pub bitwise : (ℕ → ℕ → ℕ) → ℕ → ℕ → ℕ → ℕ
@@ -63,6 +59,7 @@ notBits a = 4294967295 - a
 
 -- ---- "Comparison is signed and never wraps."
 
+-- the six relations: = # < <= > >=
 abbrev pub related : Relation → ℕ → ℕ → Bool
 related Equal a b = eqb a b
 related Unequal a b = not (eqb a b)

@@ -17,9 +17,6 @@ pub enum Relation {
     AtLeast,
 }
 
-// A shift count is below this.
-const SHIFT_COUNTS: u32 = 32;
-
 // What an operation that may fault answers. specs/Answers.antt gives each case its number.
 pub enum Answer {
     Value(u32),
@@ -218,6 +215,9 @@ pub fn pow(a: u32, n: u32) -> Answer
     }
     by_squaring(a, n)
 }
+
+// A shift count is 0 to 31.
+const SHIFT_COUNTS: u32 = 32;
 
 pub fn shl(a: u32, n: u32) -> Answer
     ensures { λ r. ⌜ outcome r ≡ shiftLeft a n ⌝ }

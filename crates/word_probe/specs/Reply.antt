@@ -1,7 +1,7 @@
 -- How the tests are answered.
-use Prim.Native.Nat.{ℕ, _+_, _*_}
+use Prim.Native.Nat.{ℕ, _*_}
 use mathlib.Core.Bool.{Bool, true, false}
-use mathlib.Core.List.{List, [], _∷_}
+use mathlib.Core.List.{[], _∷_}
 use lib.ListN.{getD}
 use Rattle.word.specs.Word.{Outcome, value, fault}
 use Rattle.word.specs.declared.Relation.{Relation}

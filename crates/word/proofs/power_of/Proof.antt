@@ -1,8 +1,6 @@
 use native.Mathlib.Omega.{arith}
 use borrow.Author.Needs.{needs}
 use mathlib.Core.Logic.{⊎-elim}
-use mathlib.Core.Path.{_≡_, subst}
-use Rattle.word.specs.Word.{product}
 use Rattle.word.proofs.Squaring.{Loop, start, after-odd, after-even, products-fit, finish}
 use Rattle.word.proofs.power_of.Statement.{statement}
 use Rattle.word.proofs.power_of.Tie as tie

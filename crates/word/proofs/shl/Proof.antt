@@ -1,16 +1,15 @@
 use borrow.Author.Needs.{needs}
 use Rattle.base.proofs.Cases.{cases}
 use Rattle.word.specs.Word.{shiftLeft, wrap}
-use Rattle.word.specs.Answers.{outcome}
 use Rattle.word.proofs.shl.Statement.{statement}
 use Rattle.word.proofs.shl.Tie as tie
 
 returns : tie.Need-returns
-unfolding shiftLeft wrap outcome
+unfolding shiftLeft wrap
 returns c = search cases depth 16
 
 returns-2 : tie.Need-returns-2
-unfolding shiftLeft outcome
+unfolding shiftLeft
 returns-2 c = search cases depth 16
 
 pub shl-spec : {M : Type 1} → statement M

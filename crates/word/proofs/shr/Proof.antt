@@ -1,16 +1,15 @@
 use borrow.Author.Needs.{needs}
 use Rattle.base.proofs.Cases.{cases}
 use Rattle.word.specs.Word.{shiftRight}
-use Rattle.word.specs.Answers.{outcome}
 use Rattle.word.proofs.shr.Statement.{statement}
 use Rattle.word.proofs.shr.Tie as tie
 
 returns : tie.Need-returns
-unfolding shiftRight outcome
+unfolding shiftRight
 returns c = search cases depth 16
 
 returns-2 : tie.Need-returns-2
-unfolding shiftRight outcome
+unfolding shiftRight
 returns-2 c = search cases depth 16
 
 pub shr-spec : {M : Type 1} → statement M

@@ -1,10 +1,5 @@
 use native.Mathlib.Omega.{arith}
 use borrow.Author.Needs.{needs}
-use mathlib.Core.Path.{_≡_, _∙_}
-use lib.IntN.{negsuc, _-ℤ_}
-use mir.Syntax.{w32}
-use mir.Val.{toZ, ofZ}
-use Rattle.word.specs.Word.{signed}
 use Rattle.word.proofs.Reading.{signed-small, signed-toZ}
 use Rattle.word.proofs.SignedType.{mirrored, held}
 use Rattle.word.proofs.to_signed.Statement.{statement}

@@ -1,5 +1,4 @@
 use borrow.Author.Needs.{needs}
-use Rattle.word.specs.Word.{relatedToZero}
 use Rattle.word.proofs.to_zero.Statement.{statement}
 use Rattle.word.proofs.to_zero.Tie as tie
 
