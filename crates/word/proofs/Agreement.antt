@@ -17,7 +17,7 @@ use Rattle.word.specs.Word.{wrap, signed, word, sum, difference, product
 use Rattle.word.specs.Word.{andBits, orBits, xorBits, notBits, comparison, related}
 use Rattle.word.specs.Integers.{wrapped, TowardZero, compared, bit}
 use Rattle.word.specs.declared.Relation.{Relation}
-use Rattle.word.proofs.Reading.{word-small, signed-small, signed-word, word-signed, signed-equal, signed-low, signed-high, signed-pos}
+use Rattle.word.proofs.Patterns.{word-small, signed-small, signed-word, word-signed, signed-equal, signed-low, signed-high, signed-pos}
 use Rattle.word.proofs.Wrapping.{word-sum, word-difference, word-product, word-negation, word-power, word-pos, wrap-right}
 use Rattle.word.proofs.Quotient.{drops-remainder, drops-remainder-only, quotient-in-range, signed-not-zero, word-by-minus-one}
 use Rattle.word.proofs.Bits.{bitwise-at, bit-shifted}

@@ -13,7 +13,7 @@ use Rattle.word.specs.Word.{signed, word, wrap, comparison, related}
 use Rattle.word.specs.Integers.{compared}
 use Rattle.word.specs.declared.Relation.{Relation}
 use Rattle.word.specs.declared.Relation.the-variants.{Equal, Unequal, Less, AtMost, Greater, AtLeast}
-use Rattle.word.proofs.Reading.{signed-equal}
+use Rattle.word.proofs.Patterns.{signed-equal}
 
 -- ---- the tests of order on the integers
 

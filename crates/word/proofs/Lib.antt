@@ -1,9 +1,10 @@
-pub mod Reading
+pub mod Patterns
 pub mod Wrapping
 pub mod SignedType
 pub mod Quotient
 pub mod Bits
 pub mod Squaring
 pub mod Comparison
+pub mod Closed
 pub mod Agreement
 pub mod Readings

@@ -14,7 +14,7 @@ use mir.Facts.{toZ-ofZ}
 use Rattle.word.specs.Word.{signed, word, negation}
 use Rattle.word.specs.Integers.{TowardZero}
 use Rattle.word.specs.Internal.{Divides}
-use Rattle.word.proofs.Reading.{signed-low, signed-high, signed-small, signed-equal, word-signed, word-ofZ}
+use Rattle.word.proofs.Patterns.{signed-low, signed-high, signed-small, signed-equal, word-signed, word-ofZ}
 use Rattle.word.proofs.Wrapping.{word-negation}
 use Rattle.word.proofs.SignedType.{held}
 

@@ -13,7 +13,7 @@ use mir.Facts.{toZ-ofZ}
 use lib.IntN.{+ℤ-idl}
 use Rattle.base.proofs.Cases.{by-less}
 use Rattle.word.specs.Word.{wrap, signed, word, negation}
-use Rattle.word.proofs.Reading.{signed-low, signed-high, signed-small, signed-toZ, word-signed}
+use Rattle.word.proofs.Patterns.{signed-low, signed-high, signed-small, signed-toZ, word-signed}
 use Rattle.word.proofs.Wrapping.{word-negation}
 
 -- an i32 that holds a word's reading is read as it

@@ -8,7 +8,7 @@ use lib.IntN.{ℤ, pos, negsuc, negℤ, _+ℤ_, _-ℤ_, _*ℤ_, subℕ, pow, one
 use Rattle.base.proofs.Cases.{by-less}
 use Rattle.base.proofs.Numbers.{mod-mul-left, mod-mul-right}
 use Rattle.word.specs.Word.{wrap, word, sum, difference, product, negation}
-use Rattle.word.proofs.Reading.{word-small}
+use Rattle.word.proofs.Patterns.{word-small}
 
 -- a - b of two numbers
 word-minus : (a b : ℕ) → word (subℕ a b) ≡ wrap (a + (4294967296 - b % 4294967296))
@@ -69,10 +69,6 @@ pub wrap-small : (a : ℕ) → wrap a < 4294967296
 unfolding wrap
 wrap-small a = omega arith
 
-product-small : (a b : ℕ) → product a b < 4294967296
-unfolding product
-product-small a b = wrap-small (a * b)
-
 pub word-pos : (n : ℕ) → word (pos n) ≡ wrap n
 unfolding word
 word-pos n = refl
@@ -93,7 +89,7 @@ negsuc-negsuc : (a b : ℕ) → word (negsuc a *ℤ negsuc b) ≡ product (word 
 negsuc-negsuc a b =
     word-pos (suc a * suc b)
     ∙ sym (wrap-both (suc a) (suc b))
-    ∙ sym (negation-negation (product (wrap (suc a)) (wrap (suc b))) (product-small (wrap (suc a)) (wrap (suc b))))
+    ∙ sym (negation-negation (product (wrap (suc a)) (wrap (suc b))) (unfold product in wrap-small (wrap (suc a) * wrap (suc b))))
     ∙ ap negation (sym (product-negation (wrap (suc a)) (wrap (suc b)) (wrap-small (suc b))) ∙ product-comm (wrap (suc a)) (negation (wrap (suc b))))
     ∙ sym (product-negation (negation (wrap (suc b))) (wrap (suc a)) (wrap-small (suc a)))
     ∙ product-comm (negation (wrap (suc b))) (negation (wrap (suc a)))

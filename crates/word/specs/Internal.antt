@@ -12,7 +12,7 @@ pub record Divides (x y : ℤ) : Type 0 where
   pub not-zero : 0 < ofZ w32 y
   pub fits : SFits w32 (quotZ x y)
 
--- a power by repeated squaring: an exponent that is a word's takes at most 62 products
+-- a power by repeated squaring: an exponent that is not negative takes at most 62 products
 pub record PowerOf (a n power products : ℕ) : Type 0 where
   pub right : power ≡ wrap (a ^ n)
   pub few : n < 2147483648 → products ≤ 62

@@ -1,6 +1,6 @@
 use native.Mathlib.Omega.{arith}
 use borrow.Author.Needs.{needs}
-use Rattle.word.proofs.Reading.{signed-small, signed-toZ}
+use Rattle.word.proofs.Patterns.{signed-small, signed-toZ}
 use Rattle.word.proofs.SignedType.{mirrored, held}
 use Rattle.word.proofs.to_signed.Statement.{statement}
 use Rattle.word.proofs.to_signed.Tie as tie
