@@ -13,7 +13,6 @@ use mir.Val.{toZ, ofZ, SFits}
 use mir.Facts.{toZ-ofZ}
 use Rattle.word.specs.Word.{signed, word, negation}
 use Rattle.word.specs.Integers.{TowardZero}
-use Rattle.word.specs.Internal.{Divides}
 use Rattle.word.proofs.Patterns.{signed-low, signed-high, signed-small, signed-equal, word-signed, word-ofZ}
 use Rattle.word.proofs.Wrapping.{word-negation}
 use Rattle.word.proofs.SignedType.{held}
@@ -56,16 +55,18 @@ quotient-in-range a b small-a small-b not-zero not-minus-one =
 module _
     (a b : ℕ) (x y : ℤ) (small-a : a < 4294967296) (small-b : b < 4294967296)
     (is-a : x ≡ signed a) (is-b : y ≡ signed b) (not-zero : b ≡ 0 → ⊥) (not-minus-one : b ≡ 4294967295 → ⊥) where
-  quotient-fits : SFits w32 (quotZ (signed a) (signed b))
-  quotient-fits = record { sfits = quotient-in-range a b small-a small-b not-zero not-minus-one }
+  pub quotient-fits : SFits w32 (quotZ (toZ w32 (ofZ w32 x)) (toZ w32 (ofZ w32 y)))
+  quotient-fits =
+      rw (held a x small-a is-a, held b y small-b is-b)
+      (record { sfits = quotient-in-range a b small-a small-b not-zero not-minus-one })
 
-  pub divides : Divides (toZ w32 (ofZ w32 x)) (toZ w32 (ofZ w32 y))
-  divides =
-      let bits : ofZ w32 (signed b) ≡ b = word-ofZ (signed b) (signed-small b small-b) ∙ word-signed b small-b in
-      rw (held a x small-a is-a, held b y small-b is-b) (record { not-zero = omega arith; fits = quotient-fits })
+  pub divisor-bits : 0 < ofZ w32 y
+  divisor-bits =
+      let bits : ofZ w32 y ≡ b = rw is-b (word-ofZ (signed b) (signed-small b small-b) ∙ word-signed b small-b) in
+      omega arith
 
-  pub quotient-held : (q : ℤ) → q ≡ quotZ (toZ w32 (ofZ w32 x)) (toZ w32 (ofZ w32 y)) → toZ w32 (ofZ w32 q) ≡ quotZ (signed a) (signed b)
-  quotient-held q e = rw (e, held a x small-a is-a, held b y small-b is-b) (toZ-ofZ quotient-fits)
+  pub quotient-held : toZ w32 (ofZ w32 (quotZ (toZ w32 (ofZ w32 x)) (toZ w32 (ofZ w32 y)))) ≡ quotZ (signed a) (signed b)
+  quotient-held = toZ-ofZ quotient-fits ∙ rw (held a x small-a is-a, held b y small-b is-b)
 
 -- ---- the kit's quotient drops the remainder, and no other number does
 

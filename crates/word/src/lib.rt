@@ -1,11 +1,9 @@
 // Word arithmetic on u32 patterns, document 01. Each function's equation cites specs/Word.antt.
 ghost use mathlib.Core.Path.{_≡_};
-ghost use Prim.Native.Nat.{_^_};
-ghost use lib.Signed.{quotZ};
 ghost use Rattle.word.specs.Word.{sum, difference, product, negation, andBits, orBits, xorBits, notBits};
-ghost use Rattle.word.specs.Word.{wrap, signed, word, related, relatedToZero, comparison, value, quotient, power, shiftLeft, shiftRight};
+ghost use Rattle.word.specs.Word.{signed, word, related, relatedToZero, comparison, quotient, power, shiftLeft, shiftRight};
 ghost use Rattle.word.specs.Answers.{outcome};
-ghost use Rattle.word.specs.Internal.{Divides, PowerOf};
+ghost use Rattle.word.specs.Internal.{PowerOf};
 
 // How two words may relate, or one word to zero: = # < <= > >=.
 pub enum Relation {
@@ -137,28 +135,7 @@ pub fn to_zero(relation: Relation, a: u32) -> bool
     }
 }
 
-// Division by -1 is the negation, so that the least word's quotient wraps to itself.
-fn by_minus_one(a: u32) -> Answer
-    ensures { λ r. ⌜ outcome r ≡ value (negation a) ⌝ }
-{
-    Answer::Value(neg(a))
-}
-
-fn divide(x: i32, y: i32) -> i32
-    requires { ⌜ Divides x y ⌝ }
-    ensures { λ r. ⌜ r ≡ quotZ x y ⌝ }
-{
-    x / y
-}
-
-// Any other quotient is in the range of words.
-fn by_other(a: u32, b: u32) -> Answer
-    requires { ⌜ (b ≡ 0 → ⊥) × (b ≡ 4294967295 → ⊥) ⌝ }
-    ensures { λ r. ⌜ outcome r ≡ value (word (quotZ (signed a) (signed b))) ⌝ }
-{
-    Answer::Value(to_word(divide(to_signed(a), to_signed(b))))
-}
-
+// Division by -1 is the negation, so that the least word's quotient wraps to itself; every other quotient is a word.
 pub fn div(a: u32, b: u32) -> Answer
     ensures { λ r. ⌜ outcome r ≡ quotient a b ⌝ }
 {
@@ -166,9 +143,9 @@ pub fn div(a: u32, b: u32) -> Answer
         return Answer::ZeroDivisor;
     }
     if b == 4294967295 {
-        return by_minus_one(a);
+        return Answer::Value(neg(a));
     }
-    by_other(a, b)
+    Answer::Value(to_word(to_signed(a) / to_signed(b)))
 }
 
 // A power, and the number of products that it took.
@@ -200,20 +177,14 @@ fn power_of(a: u32, n: u32) -> Power
     }
 }
 
-fn by_squaring(a: u32, n: u32) -> Answer
-    ensures { λ r. ⌜ outcome r ≡ value (wrap (a ^ n)) ⌝ }
-{
-    let p = power_of(a, n);
-    Answer::Value(p.word)
-}
-
 pub fn pow(a: u32, n: u32) -> Answer
     ensures { λ r. ⌜ outcome r ≡ power a n ⌝ }
 {
     if below(n, 0) {
         return Answer::NegativeExponent;
     }
-    by_squaring(a, n)
+    let p = power_of(a, n);
+    Answer::Value(p.word)
 }
 
 // A shift count is 0 to 31.
