@@ -145,7 +145,9 @@ pub fn div(a: u32, b: u32) -> Answer
     if b == 4294967295 {
         return Answer::Value(neg(a));
     }
-    Answer::Value(to_word(to_signed(a) / to_signed(b)))
+    let x = to_signed(a);
+    let y = to_signed(b);
+    Answer::Value(to_word(x / y))
 }
 
 // A power, and the number of products that it took.
