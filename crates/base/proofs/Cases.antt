@@ -14,18 +14,6 @@ pub pick-no : {A : Type 0} (t : Bool) (a b r : A) → t ≡ false → r ≡ b �
 unfolding pick
 pick-no t a b r e p = rw e p
 
--- the choice between two that are the same
-pub pick-same : {A : Type 0} (t : Bool) (a : A) → pick t a a ≡ a
-unfolding pick
-pick-same true a = refl
-pick-same false a = refl
-
--- a function of a choice is the choice of its values
-pub pick-through : {A B : Type 0} (f : A → B) (t : Bool) (a b : A) → f (pick t a b) ≡ pick t (f a) (f b)
-unfolding pick
-pick-through f true a b = refl
-pick-through f false a b = refl
-
 pub same : {A : Type 0} (a : A) → a ≡ a
 same a = refl
 

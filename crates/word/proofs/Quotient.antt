@@ -1,5 +1,6 @@
--- Division toward zero: every quotient but one is in the range of words, and division by -1 is the negation.
-use Prim.Native.Nat.{ℕ, zero, suc, _+_, _-_, _*_, _/_, _%_, _<_, _≤_}
+-- Division toward zero: division by -1 is the negation, every other quotient is in the range of words, and the kit's quotient
+-- is the only number that drops the remainder.
+use Prim.Native.Nat.{ℕ, zero, suc, _+_, _-_, _*_, _/_, _%_, _<_}
 use mathlib.Core.Path.{_≡_, refl, sym, ap, ap₂, _∙_}
 use native.Mathlib.Omega.{arith}
 use native.Mathlib.Nat.{div-one, div-le-self, div-lt-self, div-add-mod', mod-lt, zero-mul, mul-pos}
@@ -15,7 +16,7 @@ use Rattle.word.specs.Word.{signed, word, negation}
 use Rattle.word.specs.Integers.{TowardZero}
 use Rattle.word.proofs.Patterns.{signed-low, signed-high, signed-small, signed-equal, word-signed, word-ofZ}
 use Rattle.word.proofs.Wrapping.{word-negation}
-use Rattle.word.proofs.SignedType.{held}
+use Rattle.word.proofs.SignedType.{held, opposite-below}
 
 by-minus-one : (x : ℤ) → quotZ x (negsuc 0) ≡ negℤ x
 by-minus-one (pos n) = ap (λ k. negℤ (pos k)) (div-one n)
@@ -24,10 +25,6 @@ by-minus-one (negsuc n) = ap pos (div-one (suc n))
 pub word-by-minus-one : (a : ℕ) → a < 4294967296 → word (quotZ (signed a) (signed 4294967295)) ≡ negation a
 word-by-minus-one a h =
     rw (signed-high 4294967295 (omega arith), by-minus-one (signed a), word-negation (signed a), word-signed a h)
-
-opposite-below : (n k : ℕ) → n ≤ suc k → mag (negℤ (pos n)) ≤ k
-opposite-below zero k h = omega arith
-opposite-below (suc n) k h = omega arith
 
 -- neither 0 nor -1 as the divisor: the quotient is no larger than the dividend
 quotient-small : (x y : ℤ) (k : ℕ) → mag x < k → (y ≡ pos 0 → ⊥) → (y ≡ negsuc 0 → ⊥) → mag (quotZ x y) < k
@@ -85,23 +82,19 @@ natAbs-opposite : (n : ℕ) → natAbs (negℤ (pos n)) ≡ n
 natAbs-opposite zero = refl
 natAbs-opposite (suc n) = refl
 
--- a number is its quotient's multiple and its remainder
-parts : (a b : ℕ) → a / b * b + a % b ≡ a
-parts a b = div-add-mod' a b
-
 pub drops-remainder : (x y : ℤ) → (y ≡ pos 0 → ⊥) → TowardZero x y (quotZ x y)
 drops-remainder (pos a) (pos zero) h = absurd (h refl)
 drops-remainder (pos a) (pos (suc b)) h = record {
   rest = pos (a % suc b);
-  whole = ap pos (sym (parts a (suc b)));
+  whole = ap pos (sym (div-add-mod' a (suc b)));
   nearer = mod-lt a (omega arith);
-  side = sym (parts a (suc b));
+  side = sym (div-add-mod' a (suc b));
 }
 drops-remainder (pos a) (negsuc b) h = record {
   rest = pos (a % suc b);
-  whole = sym (ap (λ z. z +ℤ pos (a % suc b)) (opposite-times-negsuc (a / suc b) b) ∙ ap pos (parts a (suc b)));
+  whole = sym (ap (λ z. z +ℤ pos (a % suc b)) (opposite-times-negsuc (a / suc b) b) ∙ ap pos (div-add-mod' a (suc b)));
   nearer = mod-lt a (omega arith);
-  side = sym (ap (λ z. natAbs z + a % suc b) (opposite-times-negsuc (a / suc b) b) ∙ parts a (suc b));
+  side = sym (ap (λ z. natAbs z + a % suc b) (opposite-times-negsuc (a / suc b) b) ∙ div-add-mod' a (suc b));
 }
 drops-remainder (negsuc a) (pos zero) h = absurd (h refl)
 drops-remainder (negsuc a) (pos (suc b)) h = record {
@@ -109,19 +102,19 @@ drops-remainder (negsuc a) (pos (suc b)) h = record {
   whole = sym (
       ap (λ z. z +ℤ negℤ (pos (suc a % suc b))) (opposite-times-pos (suc a / suc b) (suc b))
       ∙ opposite-sum (suc a / suc b * suc b) (suc a % suc b)
-      ∙ ap (λ k. negℤ (pos k)) (parts (suc a) (suc b)));
+      ∙ ap (λ k. negℤ (pos k)) (div-add-mod' (suc a) (suc b)));
   nearer = rw (natAbs-opposite (suc a % suc b)) (mod-lt (suc a) (omega arith));
   side = sym (
       ap₂ _+_ (ap natAbs (opposite-times-pos (suc a / suc b) (suc b)) ∙ natAbs-opposite (suc a / suc b * suc b)) (natAbs-opposite (suc a % suc b))
-      ∙ parts (suc a) (suc b));
+      ∙ div-add-mod' (suc a) (suc b));
 }
 drops-remainder (negsuc a) (negsuc b) h = record {
   rest = negℤ (pos (suc a % suc b));
-  whole = sym (opposite-sum (suc a / suc b * suc b) (suc a % suc b) ∙ ap (λ k. negℤ (pos k)) (parts (suc a) (suc b)));
+  whole = sym (opposite-sum (suc a / suc b * suc b) (suc a % suc b) ∙ ap (λ k. negℤ (pos k)) (div-add-mod' (suc a) (suc b)));
   nearer = rw (natAbs-opposite (suc a % suc b)) (mod-lt (suc a) (omega arith));
   side = sym (
       ap₂ _+_ (natAbs-opposite (suc a / suc b * suc b)) (natAbs-opposite (suc a % suc b))
-      ∙ parts (suc a) (suc b));
+      ∙ div-add-mod' (suc a) (suc b));
 }
 
 -- a sum whose parts are on one side is on that side too: here the first part is on the other

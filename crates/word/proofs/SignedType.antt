@@ -5,12 +5,11 @@ use mathlib.Core.Bool.{true, false}
 use native.Mathlib.Omega.{arith}
 use borrow.Author.Tests.{le-ltb, leb-false}
 use lib.Dec.{T}
-use lib.IntN.{ℤ, pos, negsuc, negℤ, natAbs, _-ℤ_}
+use lib.IntN.{ℤ, pos, negsuc, negℤ, natAbs, _-ℤ_, +ℤ-idl}
 use lib.Signed.{mag, leZ, nonNeg}
 use mir.Syntax.{w32}
 use mir.Val.{toZ, ofZ, Fits, SFits}
 use mir.Facts.{toZ-ofZ}
-use lib.IntN.{+ℤ-idl}
 use Rattle.base.proofs.Cases.{by-less}
 use Rattle.word.specs.Word.{wrap, signed, word, negation}
 use Rattle.word.proofs.Patterns.{signed-low, signed-high, signed-small, signed-toZ, word-signed}
@@ -62,14 +61,14 @@ below-zero (negsuc n) h t =
 
 -- ---- the negation of a word that is not the least
 
-opposite-small : (n : ℕ) → mag (negℤ (pos n)) ≤ n
-opposite-small zero = omega arith
-opposite-small (suc n) = omega arith
+pub opposite-below : (n k : ℕ) → n ≤ suc k → mag (negℤ (pos n)) ≤ k
+opposite-below zero k h = omega arith
+opposite-below (suc n) k h = omega arith
 
 negation-small : (a : ℕ) → a < 4294967296 → (a ≡ 2147483648 → ⊥) → mag (negℤ (signed a)) < 2147483648
 negation-small a h least =
     by-less a 2147483648
-    (λ l. rw (signed-low a l) (omega (arith, opposite-small a)))
+    (λ l. rw (signed-low a l) (omega (arith, opposite-below a a (omega arith))))
     (λ g. rw (signed-high a g) (omega arith))
 
 pub negation-fits : (a : ℕ) (r : ℤ) → a < 4294967296 → (a ≡ 2147483648 → ⊥) → r ≡ signed a → SFits w32 (pos 0 -ℤ toZ w32 (ofZ w32 r))

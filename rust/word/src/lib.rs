@@ -40,49 +40,57 @@ pub enum Fault {
     ShiftCount = 3,
 }
 
-/// The sum, which wraps.
-pub fn add(a: i32, b: i32) -> i32 {
-    word_probe_add(a as u32, b as u32) as i32
+/// Functions for the operations that give a word for all words.
+macro_rules! total {
+    ($($(#[$doc:meta])* $name:ident($($word:ident),+) = $probe:ident;)+) => {$(
+        $(#[$doc])*
+        pub fn $name($($word: i32),+) -> i32 {
+            $probe($($word as u32),+) as i32
+        }
+    )+};
 }
 
-/// The difference, which wraps.
-pub fn sub(a: i32, b: i32) -> i32 {
-    word_probe_sub(a as u32, b as u32) as i32
+total! {
+    /// The sum, which wraps.
+    add(a, b) = word_probe_add;
+    /// The difference, which wraps.
+    sub(a, b) = word_probe_sub;
+    /// The product, which wraps.
+    mul(a, b) = word_probe_mul;
+    /// The bits that both words have.
+    and(a, b) = word_probe_and;
+    /// The bits that either word has.
+    or(a, b) = word_probe_or;
+    /// The bits that just one of the words has.
+    xor(a, b) = word_probe_xor;
+    /// -1, 0 or 1, as `a` is less than, equal to or greater than `b`.
+    cmp(a, b) = word_probe_cmp;
+    /// The negation, which wraps.
+    neg(a) = word_probe_neg;
+    /// The bits that the word has not.
+    not(a) = word_probe_not;
 }
 
-/// The product, which wraps.
-pub fn mul(a: i32, b: i32) -> i32 {
-    word_probe_mul(a as u32, b as u32) as i32
+/// Functions for the operations that may fault. Each panics if the archive's reply has no meaning,
+/// which is a defect of the archive.
+macro_rules! partial {
+    ($($(#[$doc:meta])* $name:ident($a:ident, $b:ident) = $probe:ident;)+) => {$(
+        $(#[$doc])*
+        pub fn $name($a: i32, $b: i32) -> Result<i32, Fault> {
+            answer(stringify!($name), $a, $b, $probe($a as u32, $b as u32))
+        }
+    )+};
 }
 
-/// The bits that both words have.
-pub fn and(a: i32, b: i32) -> i32 {
-    word_probe_and(a as u32, b as u32) as i32
-}
-
-/// The bits that either word has.
-pub fn or(a: i32, b: i32) -> i32 {
-    word_probe_or(a as u32, b as u32) as i32
-}
-
-/// The bits that just one of the words has.
-pub fn xor(a: i32, b: i32) -> i32 {
-    word_probe_xor(a as u32, b as u32) as i32
-}
-
-/// -1, 0 or 1, as `a` is less than, equal to or greater than `b`.
-pub fn cmp(a: i32, b: i32) -> i32 {
-    word_probe_cmp(a as u32, b as u32) as i32
-}
-
-/// The negation, which wraps.
-pub fn neg(a: i32) -> i32 {
-    word_probe_neg(a as u32) as i32
-}
-
-/// The bits that the word has not.
-pub fn not(a: i32) -> i32 {
-    word_probe_not(a as u32) as i32
+partial! {
+    /// The quotient without its remainder. The least word divided by -1 is itself.
+    div(a, b) = word_probe_div;
+    /// `a` to the power `n`, which wraps.
+    pow(a, n) = word_probe_pow;
+    /// `a` shifted left by `n` bits. High bits are dropped.
+    shl(a, n) = word_probe_shl;
+    /// `a` shifted right by `n` bits. Zeros come in.
+    shr(a, n) = word_probe_shr;
 }
 
 /// Whether `a` relates so to zero.
@@ -92,31 +100,6 @@ pub fn not(a: i32) -> i32 {
 /// If the archive replies neither 0 nor 1, which is a defect of the archive.
 pub fn to_zero(relation: Relation, a: i32) -> bool {
     truth(relation, a, word_probe_to_zero(relation as u32, a as u32))
-}
-
-/// The quotient without its remainder. The least word divided by -1 is itself.
-///
-/// # Panics
-///
-/// If the archive's reply has no meaning, which is a defect of the archive. The same holds for
-/// [`pow`], [`shl`] and [`shr`].
-pub fn div(a: i32, b: i32) -> Result<i32, Fault> {
-    answer("div", a, b, word_probe_div(a as u32, b as u32))
-}
-
-/// `a` to the power `n`, which wraps.
-pub fn pow(a: i32, n: i32) -> Result<i32, Fault> {
-    answer("pow", a, n, word_probe_pow(a as u32, n as u32))
-}
-
-/// `a` shifted left by `n` bits. High bits are dropped.
-pub fn shl(a: i32, n: i32) -> Result<i32, Fault> {
-    answer("shl", a, n, word_probe_shl(a as u32, n as u32))
-}
-
-/// `a` shifted right by `n` bits. Zeros come in.
-pub fn shr(a: i32, n: i32) -> Result<i32, Fault> {
-    answer("shr", a, n, word_probe_shr(a as u32, n as u32))
 }
 
 /// The meaning of a reply that is 0 or 1.
