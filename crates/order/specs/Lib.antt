@@ -1,0 +1,3 @@
+pub mod Order
+pub mod Object
+pub mod Good

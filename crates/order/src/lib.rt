@@ -1,0 +1,31 @@
+// Orders and object text, document 01.
+use word::Relation;
+
+// An operation on the accumulator and an operand.
+pub enum Operation {
+    Load,
+    Add,
+    Sub,
+    Mlt,
+    Div,
+    Exp,
+    Shl,
+    Shr,
+    And,
+    Or,
+    Xor,
+    Cmp,
+}
+
+// An order: what a record of an object holds. A case carries a word of the frame, a number or an address.
+pub enum Order {
+    Word(Operation, u32),
+    Number(Operation, u32),
+    Store(u32),
+    Neg,
+    Not,
+    Jump(u32),
+    Branch(Relation, u32),
+    Send,
+    Stop,
+}
