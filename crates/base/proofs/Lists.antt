@@ -5,7 +5,7 @@ use mathlib.Core.List.{List, [], _∷_, _++_, append-nil}
 use native.Mathlib.Omega.{arith}
 use native.Mathlib.Nat.{add-zero, add-suc, suc-add}
 use native.Mathlib.Numerals.{add-one}
-use lib.ListN.{length, getD, take, drop, set, length-set, length-append, drop-of-length-le}
+use lib.ListN.{length, getD, take, drop, set, replicate, length-set, length-append, drop-of-length-le}
 use lib.Seq.{sets, sets-eq, drop-cons, take-suc, getD-set-same, getD-set-other, length-take-le, take-at, drop-at}
 
 module _ {A : Type 0} where
@@ -66,3 +66,15 @@ module _ {A : Type 0} where
       sets-eq vs l 0 (omega arith)
       ∙ ap (λ r. vs ++ r) (drop-of-length-le l {i = 0 + length vs} (omega arith))
       ∙ append-nil vs
+
+  -- ---- a list with its default behind it
+
+  getD-repeated : (n i : ℕ) (d : A) → getD (replicate n d) i d ≡ d
+  getD-repeated zero i d = refl
+  getD-repeated (suc n) zero d = refl
+  getD-repeated (suc n) (suc i) d = getD-repeated n i d
+
+  pub getD-padded : (l : List A) (n i : ℕ) (d : A) → getD (l ++ replicate n d) i d ≡ getD l i d
+  getD-padded [] n i d = getD-repeated n i d
+  getD-padded (x ∷ l) n zero d = refl
+  getD-padded (x ∷ l) n (suc i) d = getD-padded l n i d

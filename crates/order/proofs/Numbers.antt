@@ -1,0 +1,86 @@
+-- The number of an order and its operand tell the order: two arrays hold a program and lose nothing of it.
+use Prim.Native.Nat.{ℕ, zero, suc, _+_, _<_}
+use mathlib.Core.Path.{_≡_, refl, sym, ap, ap₂, _∙_}
+use mathlib.Core.List.{List, [], _∷_, _++_, map}
+use native.Mathlib.Omega.{arith}
+use lib.ListN.{getD, replicate, List·getD-map, List·getD-eq-default}
+use Rattle.base.proofs.Cases.{by-less}
+use Rattle.base.proofs.Lists.{getD-padded}
+use Rattle.word.specs.declared.Relation.{Relation}
+use Rattle.word.specs.declared.Relation.the-variants.{Equal, Unequal, Less, AtMost, Greater, AtLeast}
+use Rattle.order.specs.declared.Operation.{Operation}
+use Rattle.order.specs.declared.Operation.the-variants.{Load, Add, Sub, Mlt, Div, Exp, Shl, Shr, And, Or, Xor, Cmp}
+use Rattle.order.specs.declared.Order.{Order}
+use Rattle.order.specs.declared.Order.the-variants.{Word, Number, Store, Neg, Not, Jump, Branch, Send, Stop}
+use Rattle.order.specs.Order.{operand, operationNumber, branchNumber, number, shapes, orderOf, ordersOf}
+
+-- ---- one order
+
+operation-again : (f : Operation) (v : ℕ) → (orderOf (12 + operationNumber f) v ≡ Word f v) × (orderOf (24 + operationNumber f) v ≡ Number f v)
+unfolding orderOf shapes
+operation-again Load v = (refl, refl)
+operation-again Add v = (refl, refl)
+operation-again Sub v = (refl, refl)
+operation-again Mlt v = (refl, refl)
+operation-again Div v = (refl, refl)
+operation-again Exp v = (refl, refl)
+operation-again Shl v = (refl, refl)
+operation-again Shr v = (refl, refl)
+operation-again And v = (refl, refl)
+operation-again Or v = (refl, refl)
+operation-again Xor v = (refl, refl)
+operation-again Cmp v = (refl, refl)
+
+branch-again : (r : Relation) (a : ℕ) → orderOf (branchNumber r) a ≡ Branch r a
+unfolding orderOf shapes
+branch-again Equal a = refl
+branch-again Unequal a = refl
+branch-again Less a = refl
+branch-again AtMost a = refl
+branch-again Greater a = refl
+branch-again AtLeast a = refl
+
+pub order-again : (o : Order) → orderOf (number o) (operand o) ≡ o
+unfolding orderOf shapes
+order-again (Word f w) = operation-again f w .0
+order-again (Number f n) = operation-again f n .1
+order-again (Store w) = refl
+order-again Neg = refl
+order-again Not = refl
+order-again (Jump a) = refl
+order-again (Branch r a) = branch-again r a
+order-again Send = refl
+order-again Stop = refl
+
+-- a number past the table stands for STOP, whose number is 0
+pub number-below : (o : Order) → number o < 36
+unfolding orderOf shapes
+number-below o =
+    by-less (number o) 36 (λ l. l)
+    (λ g. let past : number o ≡ 0 = ap number (sym (order-again o) ∙ ap (λ s. s (operand o)) (List·getD-eq-default shapes (λ v. Stop) g)) in
+    absurd (omega arith))
+
+-- ---- the orders of two arrays
+
+pub orders-again : (os : List Order) → ordersOf (map number os) (map operand os) ≡ os
+unfolding ordersOf
+orders-again [] = refl
+orders-again (o ∷ os) = ap₂ _∷_ (order-again o) (orders-again os)
+
+pub ordersOf-at : (ks vs : List ℕ) (i : ℕ) → getD (ordersOf ks vs) i Stop ≡ orderOf (getD ks i 0) (getD vs i 0)
+unfolding ordersOf orderOf shapes
+ordersOf-at [] vs i = refl
+ordersOf-at (k ∷ ks) [] zero = refl
+ordersOf-at (k ∷ ks) [] (suc i) = ordersOf-at ks [] i
+ordersOf-at (k ∷ ks) (v ∷ vs) zero = refl
+ordersOf-at (k ∷ ks) (v ∷ vs) (suc i) = ordersOf-at ks vs i
+
+-- zeros behind a program change none of its orders: 0 is the number of STOP, the order past the last
+pub ordersOf-padded : (os : List Order) (a b i : ℕ)
+    → getD (ordersOf (map number os ++ replicate a 0) (map operand os ++ replicate b 0)) i Stop ≡ getD os i Stop
+ordersOf-padded os a b i =
+    ordersOf-at (map number os ++ replicate a 0) (map operand os ++ replicate b 0) i
+    ∙ ap₂ orderOf
+    (getD-padded (map number os) a i 0 ∙ List·getD-map number os i Stop)
+    (getD-padded (map operand os) b i 0 ∙ List·getD-map operand os i Stop)
+    ∙ order-again (getD os i Stop)
