@@ -1,0 +1,31 @@
+-- What follows where something is found at the front of a text: every reading that came before it found its part, and
+-- every test that could refuse it passed.
+use Prim.Native.Nat.{ℕ}
+use mathlib.Core.Path.{_≡_, refl}
+use mathlib.Core.Bool.{Bool, true, false}
+use mathlib.Core.List.{List}
+use native.Mathlib.Omega.{arith}
+use Rattle.base.specs.Choice.{pick}
+use Rattle.order.specs.Object.{Front, found, missing, onFront}
+
+module _ {A : Type 0} {a : A} {l : List ℕ} where
+  pub never : {P : Type 0} → missing ≡ found a l → P
+  never e = let z : _≡_ {A = ℕ} 0 1 = cc in absurd (omega arith)
+
+  -- a test that refuses where it holds, and one that refuses where it fails
+  pub not-refused : (t : Bool) (f : Front A) → pick t missing f ≡ found a l → (t ≡ false) × (f ≡ found a l)
+  unfolding pick
+  not-refused true f e = never e
+  not-refused false f e = (refl, e)
+
+  pub let-through : (t : Bool) (f : Front A) → pick t f missing ≡ found a l → (t ≡ true) × (f ≡ found a l)
+  unfolding pick
+  let-through true f e = (refl, e)
+  let-through false f e = never e
+
+  -- a reading of two parts
+  pub both-found : {B P : Type 0} (f : Front B) (g : B → List ℕ → Front A) → onFront f g missing ≡ found a l
+      → ((b : B) (l₁ : List ℕ) → f ≡ found b l₁ → g b l₁ ≡ found a l → P) → P
+  unfolding onFront
+  both-found (found b l₁) g e k = k b l₁ refl e
+  both-found missing g e k = never e
