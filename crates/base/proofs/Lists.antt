@@ -1,11 +1,11 @@
 -- Laws of lists that the kit lacks, over any element type. `sets l i vs` is l with the elements of vs stored from place i on.
 use Prim.Native.Nat.{ℕ, zero, suc, _+_, _<_, _≤_}
-use mathlib.Core.Path.{_≡_, refl, sym, ap, _∙_}
-use mathlib.Core.List.{List, [], _∷_, _++_, append-nil}
+use mathlib.Core.Path.{_≡_, refl, sym, ap, ap₂, _∙_}
+use mathlib.Core.List.{List, [], _∷_, _++_, map, append-nil}
 use native.Mathlib.Omega.{arith}
 use native.Mathlib.Nat.{add-zero, add-suc, suc-add}
 use native.Mathlib.Numerals.{add-one}
-use lib.ListN.{length, getD, take, drop, set, replicate, length-set, length-append, drop-of-length-le}
+use lib.ListN.{length, getD, take, drop, set, replicate, length-set, length-append, drop-of-length-le, List·getD-map}
 use lib.Seq.{sets, sets-eq, drop-cons, take-suc, getD-set-same, getD-set-other, length-take-le, take-at, drop-at}
 
 module _ {A : Type 0} where
@@ -78,3 +78,7 @@ module _ {A : Type 0} where
   getD-padded [] n i d = getD-repeated n i d
   getD-padded (x ∷ l) n zero d = refl
   getD-padded (x ∷ l) n (suc i) d = getD-padded l n i d
+
+-- what holds of every element of a table, as a computation over the whole table shows it, holds at each place
+pub map-at : {A B : Type 0} (f g : A → B) (l : List A) (d : A) → map f l ≡ map g l → f d ≡ g d → (k : ℕ) → f (getD l k d) ≡ g (getD l k d)
+map-at f g l d all default k = sym (List·getD-map f l k d) ∙ ap₂ (λ m e. getD m k e) all default ∙ List·getD-map g l k d

@@ -29,3 +29,8 @@ module _ {A : Type 0} {a : A} {l : List ℕ} where
   unfolding onFront
   both-found (found b l₁) g e k = k b l₁ refl e
   both-found missing g e k = never e
+
+-- a proof by what is found
+pub by-front : {A P : Type 0} (f : Front A) → ((a : A) (l : List ℕ) → f ≡ found a l → P) → (f ≡ missing → P) → P
+by-front (found a l) y n = y a l refl
+by-front missing y n = n refl

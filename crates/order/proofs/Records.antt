@@ -1,0 +1,91 @@
+-- Records and their orders: the record of an order is read as that order, and no other line is.
+use Prim.Native.Nat.{ℕ, _≤_}
+use mathlib.Core.Path.{_≡_, refl, sym, ap, ap₂, _∙_}
+use mathlib.Core.List.{List, [], _∷_, _++_, map, append-assoc}
+use native.Mathlib.Omega.{arith}
+use borrow.Author.Tests.{eq-eqb, eqb-true}
+use lib.Dec.{eqb}
+use lib.ListN.{getD}
+use Rattle.base.specs.Choice.{pick}
+use Rattle.base.specs.Text.{bytes}
+use Rattle.base.proofs.Lists.{map-at}
+use Rattle.order.specs.declared.Order.{Order}
+use Rattle.order.specs.declared.Order.the-variants.{Stop}
+use Rattle.order.specs.Order.{operand, number, shapes, orderOf}
+use Rattle.order.specs.Object.{Front, found, missing, onFront, decimal, heading, recordText, fixed, numeral, recordAmong, recordAt}
+use Rattle.order.proofs.Fronts.{never, let-through, both-found, by-front}
+use Rattle.order.proofs.Decimal.{numeral-decimal, decimal-numeral}
+use Rattle.order.proofs.Numbers.{order-again}
+
+-- ---- a fixed string
+
+pub fixed-front : (cs rest : List ℕ) → fixed cs (cs ++ rest) ≡ found [] rest
+unfolding fixed pick
+fixed-front [] rest = refl
+fixed-front (c ∷ cs) rest = rw (eq-eqb c c refl) (fixed-front cs rest)
+
+pub front-fixed : (cs l rest x : List ℕ) → fixed cs l ≡ found x rest → l ≡ cs ++ rest
+unfolding fixed
+front-fixed [] l rest x e = cc
+front-fixed (c ∷ cs) [] rest x e = never e
+front-fixed (c ∷ cs) (b ∷ l) rest x e =
+    let matched = let-through (eqb b c) _ e in
+    ap₂ _∷_ (eqb-true b c (matched .0)) (front-fixed cs l rest x (matched .1))
+
+-- ---- the table of shapes
+
+-- an order's heading says nothing of its operand
+same-headings : (v : ℕ) → map (λ s. heading (s v)) shapes ≡ map (λ s. heading (s 0)) shapes
+unfolding shapes bytes
+same-headings v = refl
+
+-- what is read behind the heading of a shape
+orderAt : (ℕ → Order) → List ℕ → Front Order
+orderAt s l = onFront (numeral 10 l) (λ v l₁. pick (eqb (operand (s v)) v) (found (s v) l₁) missing) missing
+
+-- no other heading fits where a heading stands, whatever text is behind it
+headings-told : (l : List ℕ) → map (λ s. recordAt (heading (s 0) ++ l)) shapes ≡ map (λ s. orderAt s l) shapes
+unfolding shapes bytes recordAt recordAmong fixed pick onFront orderAt
+headings-told l = refl
+
+heading-at : (k v : ℕ) → heading (orderOf k v) ≡ heading (orderOf k 0)
+unfolding orderOf
+heading-at k v = map-at (λ s. heading (s v)) (λ s. heading (s 0)) shapes (λ v. Stop) (same-headings v) refl k
+
+record-at : (k : ℕ) (l : List ℕ) → recordAt (heading (orderOf k 0) ++ l) ≡ orderAt (orderOf k) l
+unfolding orderOf shapes
+record-at k l = map-at (λ s. recordAt (heading (s 0) ++ l)) (λ s. orderAt s l) shapes (λ v. Stop) (headings-told l) (ap (λ m. getD m 0 missing) (headings-told l)) k
+
+-- ---- the record of an order
+
+parts : (o : Order) (rest : List ℕ) → recordText o ++ rest ≡ heading o ++ (decimal (operand o) ++ 10 ∷ rest)
+parts o rest =
+    append-assoc (heading o ++ decimal (operand o)) (10 ∷ []) rest ∙ append-assoc (heading o) (decimal (operand o)) (10 ∷ rest)
+
+pub record-again : (o : Order) (rest : List ℕ) → operand o ≤ 2147483647 → recordAt (recordText o ++ rest) ≡ found o rest
+unfolding orderAt onFront pick
+record-again o rest small =
+    ap recordAt (parts o rest)
+    ∙ ap (λ h. recordAt (h ++ (decimal (operand o) ++ 10 ∷ rest))) (ap heading (sym (order-again o)) ∙ heading-at (number o) (operand o))
+    ∙ record-at (number o) (decimal (operand o) ++ 10 ∷ rest)
+    ∙ rw (numeral-decimal 10 (operand o) rest small (omega arith), order-again o, eq-eqb (operand o) (operand o) refl)
+
+among : (ss : List (ℕ → Order)) → ((v : ℕ) → map (λ s. heading (s v)) ss ≡ map (λ s. heading (s 0)) ss) → (o : Order) (l rest : List ℕ)
+    → recordAmong ss l ≡ found o rest → (l ≡ recordText o ++ rest) × (operand o ≤ 2147483647)
+unfolding recordAmong onFront
+among [] same o l rest e = never e
+among (s ∷ ss) same o l rest e =
+    by-front (fixed (heading (s 0)) l)
+    (λ x l₁ f. both-found (numeral 10 l₁) _ (rw f at e)
+    (λ v l₂ n p. let told = let-through (eqb (operand (s v)) v) _ p in
+    let operand-is = eqb-true (operand (s v)) v (told .0) in
+    let written = decimal-numeral 10 v l₁ l₂ n in
+    let front = front-fixed (heading (s 0)) l l₁ x f in
+    let all = same v in
+    let order-is : s v ≡ o = cc in
+    (cc (parts o rest), rw (← order-is) (omega arith))))
+    (λ f. among ss (λ v. let all = same v in cc) o l rest (rw f at e))
+
+pub again-record : (o : Order) (l rest : List ℕ) → recordAt l ≡ found o rest → (l ≡ recordText o ++ rest) × (operand o ≤ 2147483647)
+unfolding recordAt
+again-record = among shapes same-headings
