@@ -36,6 +36,17 @@ by-less a b y n = by-test (ltb a b) (λ e. y (ltb-true a b e)) (λ e. n (ltb-fal
 pub by-equal : {P : Type 0} (a b : ℕ) → (a ≡ b → P) → ((a ≡ b → ⊥) → P) → P
 by-equal a b y n = by-test (eqb a b) (λ e. y (eqb-true a b e)) (λ e. n (eqb-false a b e))
 
+-- the value of a choice, where one of its parts is ruled out: so the test took the other
+pub chosen-first : {A : Type 0} (t : Bool) (a b c : A) → (b ≡ c → ⊥) → pick t a b ≡ c → (t ≡ true) × (a ≡ c)
+unfolding pick
+chosen-first true a b c not-second e = (refl, e)
+chosen-first false a b c not-second e = absurd (not-second e)
+
+pub chosen-second : {A : Type 0} (t : Bool) (a b c : A) → (a ≡ c → ⊥) → pick t a b ≡ c → (t ≡ false) × (b ≡ c)
+unfolding pick
+chosen-second true a b c not-first e = absurd (not-first e)
+chosen-second false a b c not-first e = (refl, e)
+
 -- what turns the facts of a path into the values of its tests
 pub ruleset tests = (lt-ltb, le-ltb, le-leb, lt-leb, eq-eqb, ne-eqb)
 

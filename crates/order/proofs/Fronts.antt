@@ -6,6 +6,7 @@ use mathlib.Core.Bool.{Bool, true, false}
 use mathlib.Core.List.{List}
 use native.Mathlib.Omega.{arith}
 use Rattle.base.specs.Choice.{pick}
+use Rattle.base.proofs.Cases.{chosen-first, chosen-second}
 use Rattle.order.specs.Object.{Front, found, missing, onFront}
 
 module _ {A : Type 0} {a : A} {l : List ℕ} where
@@ -14,14 +15,10 @@ module _ {A : Type 0} {a : A} {l : List ℕ} where
 
   -- a test that refuses where it holds, and one that refuses where it fails
   pub not-refused : (t : Bool) (f : Front A) → pick t missing f ≡ found a l → (t ≡ false) × (f ≡ found a l)
-  unfolding pick
-  not-refused true f e = never e
-  not-refused false f e = (refl, e)
+  not-refused t f e = chosen-second t missing f (found a l) never e
 
   pub let-through : (t : Bool) (f : Front A) → pick t f missing ≡ found a l → (t ≡ true) × (f ≡ found a l)
-  unfolding pick
-  let-through true f e = (refl, e)
-  let-through false f e = never e
+  let-through t f e = chosen-first t f missing (found a l) never e
 
   -- a reading of two parts
   pub both-found : {B P : Type 0} (f : Front B) (g : B → List ℕ → Front A) → onFront f g missing ≡ found a l

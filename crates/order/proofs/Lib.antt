@@ -2,3 +2,5 @@ pub mod Numbers
 pub mod Fronts
 pub mod Decimal
 pub mod Records
+pub mod HeaderText
+pub mod RecordLines
