@@ -79,11 +79,11 @@ module _ {A : Type 0} where
   getD-padded (x ∷ l) n zero d = refl
   getD-padded (x ∷ l) n (suc i) d = getD-padded l n i d
 
--- what holds of a head and of every element of a tail
-pub each-cons : {A : Type 0} (P : A → Type 0) (a d : A) (l : List A) → P a → ((i : ℕ) → i < length l → P (getD l i d))
-    → (i : ℕ) → i < suc (length l) → P (getD (a ∷ l) i d)
-each-cons P a d l here there zero h = here
-each-cons P a d l here there (suc i) h = there i (omega arith)
+-- what holds of a head and of the n elements behind it
+pub each-cons : {A : Type 0} (P : A → Type 0) (a d : A) (l : List A) (n : ℕ) → P a → ((i : ℕ) → i < n → P (getD l i d))
+    → (i : ℕ) → i < suc n → P (getD (a ∷ l) i d)
+each-cons P a d l n here there zero h = here
+each-cons P a d l n here there (suc i) h = there i (omega arith)
 
 -- what holds of every element of a table, as a computation over the whole table shows it, holds at each place
 pub map-at : {A B : Type 0} (f g : A → B) (l : List A) (d : A) → map f l ≡ map g l → f d ≡ g d → (k : ℕ) → f (getD l k d) ≡ g (getD l k d)

@@ -4,3 +4,5 @@ pub mod Decimal
 pub mod Records
 pub mod HeaderText
 pub mod RecordLines
+pub mod ObjectChecks
+pub mod Accepted

@@ -37,7 +37,7 @@ one-read n o l rest ls line behind =
     record {
       most = omega arith;
       whole = line .0 ∙ ap (λ r. recordText o ++ r) (behind .whole) ∙ sym (append-assoc (recordText o) (recordsText (ls .orders)) (ls .rest));
-      numbers = each-cons (λ p. operand p ≤ 2147483647) o Stop (ls .orders) (line .1) (behind .numbers);
+      numbers = each-cons (λ p. operand p ≤ 2147483647) o Stop (ls .orders) (length (ls .orders)) (line .1) (behind .numbers);
     }
 
 pub again-lines : (n : ℕ) (l : List ℕ) → Read n l (linesAt n l)
