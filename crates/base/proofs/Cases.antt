@@ -47,6 +47,12 @@ unfolding pick
 chosen-second true a b c not-first e = absurd (not-first e)
 chosen-second false a b c not-first e = (refl, e)
 
+-- what holds of each part of a choice, where the test takes it, holds of the choice
+pub either-part : {A : Type 0} (P : A → Type 0) (t : Bool) (a b : A) → (t ≡ true → P a) → (t ≡ false → P b) → P (pick t a b)
+unfolding pick
+either-part P true a b y n = y refl
+either-part P false a b y n = n refl
+
 -- what turns the facts of a path into the values of its tests
 pub ruleset tests = (lt-ltb, le-ltb, le-leb, lt-leb, eq-eqb, ne-eqb)
 

@@ -7,7 +7,7 @@ use borrow.Author.Tests.{lt-ltb, le-ltb, eq-eqb, ne-eqb, ltb-false, eqb-true, eq
 use lib.Dec.{ltb, eqb}
 use Rattle.base.specs.Choice.{pick}
 use Rattle.base.proofs.Cases.{by-less, by-test}
-use Rattle.order.specs.Object.{found, missing, digitsOf, decimal, digits, numeral}
+use Rattle.order.specs.Object.{found, digitsOf, decimal, digits, numeral}
 use Rattle.order.proofs.Fronts.{never, not-refused}
 
 -- ---- the digits of a number

@@ -6,3 +6,5 @@ pub mod HeaderText
 pub mod RecordLines
 pub mod ObjectChecks
 pub mod Accepted
+pub mod RoundTrip
+pub mod Refusals

@@ -1,25 +1,26 @@
 -- The checks 22 to 25 pass exactly where every operand is in its range and the last order, and no other, is STOP.
 use Prim.Native.Nat.{ℕ, zero, suc, _+_, _-_, _<_, _≤_}
-use mathlib.Core.Path.{_≡_, refl, sym, ap, _∙_}
+use mathlib.Core.Path.{_≡_, refl, sym, _∙_}
 use mathlib.Core.Bool.{true, false}
 use mathlib.Core.List.{List, [], _∷_}
 use native.Mathlib.Omega.{arith}
-use borrow.Author.Tests.{eq-eqb, ne-eqb, eqb-true}
-use lib.Dec.{ltb, eqb}
+use borrow.Author.Tests.{le-ltb, eq-eqb, ne-eqb, eqb-true}
+use lib.Dec.{eqb}
 use lib.ListN.{length, getD}
 use Rattle.base.specs.Choice.{pick}
-use Rattle.base.proofs.Cases.{by-test, by-equal, chosen-first, chosen-second}
+use Rattle.base.proofs.Cases.{by-test, by-equal, chosen-first}
 use Rattle.base.proofs.Lists.{each-cons}
 use Rattle.order.specs.declared.Order.{Order}
 use Rattle.order.specs.declared.Order.the-variants.{Stop}
-use Rattle.order.specs.Object.{Reading, object, refused, operandRefusal, isStop, firstStop, firstOperand}
+use Rattle.order.specs.Object.{Reading, object, refused, operandRefusal, isStop, firstStop, firstOperand, stopLast, exactly}
+use Rattle.order.specs.Good.{Good}
 
 pub not-object : {n p v t : ℕ} {os : List Order} → refused n p ≡ object v t os → ⊥
 not-object e = let z : _≡_ {A = ℕ} 0 1 = cc in omega arith
 
 -- ---- 23 and 24
 
-pub operands-pass : (words n k : ℕ) (os : List Order) (after : Reading)
+operands-pass : (words n k : ℕ) (os : List Order) (after : Reading)
     → ((i : ℕ) → i < length os → operandRefusal words n (getD os i Stop) ≡ 0) → firstOperand words n k os after ≡ after
 unfolding firstOperand pick
 operands-pass words n k [] after good = refl
@@ -72,7 +73,7 @@ stop-first k (suc p) (o ∷ os) l e =
 
 -- the last order is STOP, and no other
 module _ (os : List Order) (some : 1 ≤ length os) where
-  pub stops-last : ((k : ℕ) → k < length os → isStop (getD os k Stop) ≡ eqb k (length os - 1)) → firstStop 0 os ≡ length os - 1
+  stops-last : ((k : ℕ) → k < length os → isStop (getD os k Stop) ≡ eqb k (length os - 1)) → firstStop 0 os ≡ length os - 1
   stops-last stops =
       first-stop 0 (length os - 1) os (omega arith)
       (record {
@@ -87,3 +88,12 @@ module _ (os : List Order) (some : 1 ≤ length os) where
       by-equal k (length os - 1)
       (λ y. rw y (f .here ∙ sym (eq-eqb (length os - 1) (length os - 1) refl)))
       (λ n. f .before k (omega arith) ∙ sym (ne-eqb k (length os - 1) n))
+
+-- the lines of a good object pass every check
+pub all-pass : (v t : ℕ) (os : List Order) → Good v t os
+    → exactly (record { variables = v; temporaries = t; orders = length os }) (record { orders = os; rest = [] }) ≡ object v t os
+unfolding exactly stopLast pick
+all-pass v t os g =
+    rw (le-ltb (length os) (length os) (omega arith))
+    (operands-pass (v + t + 2) (length os) 0 os (stopLast v t os) (g .operands)
+    ∙ rw (eq-eqb (firstStop 0 os) (length os - 1) (stops-last os (g .some-orders) (g .stops))))

@@ -36,7 +36,7 @@ front-fixed (c ∷ cs) (b ∷ l) rest x e =
 
 -- an order's heading says nothing of its operand
 same-headings : (v : ℕ) → map (λ s. heading (s v)) shapes ≡ map (λ s. heading (s 0)) shapes
-unfolding shapes bytes
+unfolding shapes
 same-headings v = refl
 
 -- what is read behind the heading of a shape
