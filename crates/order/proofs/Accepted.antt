@@ -1,11 +1,11 @@
 -- What an accepted text is: the text of the object that is read, which is good.
-use Prim.Native.Nat.{ℕ, _+_, _-_, _≤_}
-use mathlib.Core.Path.{_≡_, refl, _∙_}
-use mathlib.Core.List.{List, [], _∷_, _++_, append-nil}
+use Prim.Native.Nat.{ℕ, _+_, _-_}
+use mathlib.Core.Path.{_≡_, _∙_}
+use mathlib.Core.List.{List, [], _++_, append-nil}
 use native.Mathlib.Omega.{arith}
 use borrow.Author.Tests.{ltb-false, eqb-true}
 use lib.Dec.{ltb, eqb}
-use lib.ListN.{length}
+use lib.ListN.{length, drop-of-length-le}
 use Rattle.base.proofs.Cases.{chosen-first, chosen-second}
 use Rattle.order.specs.declared.Order.{Order}
 use Rattle.order.specs.Object.{Header, Lines, object, onFront, headerText, recordsText, text, headerAt, linesAt}
@@ -28,10 +28,6 @@ record Checked (h : Header) (ls : Lines) (v t : ℕ) (os : List Order) : Type 0 
   good : Good (h .variables) (h .temporaries) (ls .orders)
   same : object (h .variables) (h .temporaries) (ls .orders) ≡ object v t os
 
-empty : (l : List ℕ) → length l ≤ 0 → l ≡ []
-empty [] h = refl
-empty (b ∷ l) h = absurd (omega arith)
-
 checked : (h : Header) (ls : Lines) (l : List ℕ) (v t : ℕ) (os : List Order) → Within (h .variables) (h .temporaries) (h .orders)
     → Read (h .orders) l ls → exactly h ls ≡ object v t os → Checked h ls v t os
 unfolding exactly stopLast
@@ -43,7 +39,7 @@ checked h ls l v t os w r e =
     let all : length (ls .orders) ≡ h .orders = omega (arith, ltb-false (length (ls .orders)) (h .orders) (enough .0)) in
     record {
       all-lines = all;
-      no-more = empty (ls .rest) (ltb-false 0 (length (ls .rest)) (over .0));
+      no-more = drop-of-length-le (ls .rest) {i = 0} (ltb-false 0 (length (ls .rest)) (over .0));
       good = record {
         variables = w .variables;
         temporaries = w .temporaries;
@@ -57,8 +53,8 @@ checked h ls l v t os w r e =
     }
 
 -- the header and the lines together
-joined : (h : Header) (ls : Lines) (l rest : List ℕ) (v t : ℕ) (os : List Order) → l ≡ headerText (h .variables) (h .temporaries) (h .orders) ++ rest
-    → rest ≡ recordsText (ls .orders) ++ ls .rest → linesOf l ≡ ls .orders → Checked h ls v t os → Accepted l v t os
+joined : (h : Header) (ls : Lines) (l rest : List ℕ) (v t : ℕ) (os : List Order)
+    → l ≡ headerText (h .variables) (h .temporaries) (h .orders) ++ rest → rest ≡ recordsText (ls .orders) ++ ls .rest → linesOf l ≡ ls .orders → Checked h ls v t os → Accepted l v t os
 unfolding text
 joined h ls l rest v t os header behind lines c =
     let variables : h .variables ≡ v = cc in

@@ -31,54 +31,51 @@ enough (suc k) n small =
     ∙ ap (λ ds. ds ++ ((n % 10 + 48) ∷ [])) (enough k (n / 10) (omega arith))
     ∙ sym (more-digits (suc (suc k)) n g))
 
--- the last digit of a number
-decimal-last : (v d : ℕ) → 0 < v → d < 10 → v * 10 + d ≤ 2147483647 → decimal (v * 10 + d) ≡ decimal v ++ ((d + 48) ∷ [])
-decimal-last v d some digit small =
-    let front : (v * 10 + d) / 10 ≡ v = omega arith in
-    let last : (v * 10 + d) % 10 ≡ d = omega arith in
-    more-digits 9 (v * 10 + d) (omega arith) ∙ rw (front, last, enough 8 v (omega arith))
+-- a number with one digit more, b, before the text l
+decimal-digit : (v b : ℕ) (l : List ℕ) → 0 < v → 48 ≤ b → b ≤ 57 → v * 10 + (b - 48) ≤ 2147483647
+    → decimal (v * 10 + (b - 48)) ++ l ≡ decimal v ++ b ∷ l
+decimal-digit v b l some low high small =
+    let front : (v * 10 + (b - 48)) / 10 ≡ v = omega arith in
+    let last : (v * 10 + (b - 48)) % 10 + 48 ≡ b = omega arith in
+    ap (λ ds. ds ++ l) (more-digits 9 (v * 10 + (b - 48)) (omega arith))
+    ∙ rw (front, last, enough 8 v (omega arith)) (append-assoc (decimal v) (b ∷ []) l)
 
 -- ---- a number that is written is read again
 
-module _ (close : ℕ) (below : close < 48) (rest : List ℕ) where
-  first-read : (d : ℕ) → d < 10 → numeral close ((d + 48) ∷ rest) ≡ digits close d rest
-  unfolding numeral pick
-  first-read d digit = let same : d + 48 - 48 ≡ d = omega arith in rw (le-ltb (d + 48) 48 (omega arith), le-ltb 57 (d + 48) (omega arith), same)
+first-read : (close d : ℕ) (rest : List ℕ) → d < 10 → numeral close ((d + 48) ∷ rest) ≡ digits close d rest
+unfolding numeral pick
+first-read close d rest digit =
+    let same : d + 48 - 48 ≡ d = omega arith in
+    rw (le-ltb (d + 48) 48 (omega arith), le-ltb 57 (d + 48) (omega arith), same)
 
-  next-read : (v d : ℕ) → 0 < v → d < 10 → v * 10 + d ≤ 2147483647 → digits close v ((d + 48) ∷ rest) ≡ digits close (v * 10 + d) rest
+module _ (close : ℕ) (below : close < 48) where
+  next-read : (v d : ℕ) (rest : List ℕ) → 0 < v → d < 10 → v * 10 + d ≤ 2147483647
+      → digits close v ((d + 48) ∷ rest) ≡ digits close (v * 10 + d) rest
   unfolding digits pick
-  next-read v d some digit small =
+  next-read v d rest some digit small =
       let same : d + 48 - 48 ≡ d = omega arith in
       rw (ne-eqb (d + 48) close (λ e. omega arith), le-ltb (d + 48) 48 (omega arith), le-ltb 57 (d + 48) (omega arith))
       (rw (ne-eqb v 0 (λ e. omega arith), same, le-ltb 2147483647 (v * 10 + d) small))
 
-numeral-digits : (close : ℕ) → close < 48 → (k n : ℕ) (rest : List ℕ) → n < 10 ^ suc k → n ≤ 2147483647
-    → numeral close (digitsOf (suc k) n ++ rest) ≡ digits close n rest
-numeral-digits close below zero n rest room small = rw (one-digit 0 n (omega arith)) (first-read close below rest n (omega arith))
-numeral-digits close below (suc k) n rest room small =
-    by-less n 10
-    (λ l. rw (one-digit (suc k) n l) (first-read close below rest n l))
-    (λ g. rw (more-digits (suc k) n g, append-assoc (digitsOf (suc k) (n / 10)) ((n % 10 + 48) ∷ []) rest)
-    (numeral-digits close below k (n / 10) ((n % 10 + 48) ∷ rest) (omega arith) (omega arith)
-    ∙ next-read close below rest (n / 10) (n % 10) (omega arith) (omega arith) (omega arith)
-    ∙ ap (λ m. digits close m rest) (omega arith)))
+  -- behind its digits, what has been read is n
+  all-read : (k n : ℕ) (rest : List ℕ) → n < 10 ^ suc k → n ≤ 2147483647 → numeral close (digitsOf (suc k) n ++ rest) ≡ digits close n rest
+  all-read zero n rest room small = rw (one-digit 0 n (omega arith)) (first-read close n rest (omega arith))
+  all-read (suc k) n rest room small =
+      by-less n 10
+      (λ l. rw (one-digit (suc k) n l) (first-read close n rest l))
+      (λ g. rw (more-digits (suc k) n g, append-assoc (digitsOf (suc k) (n / 10)) ((n % 10 + 48) ∷ []) rest)
+      (all-read k (n / 10) ((n % 10 + 48) ∷ rest) (omega arith) (omega arith)
+      ∙ next-read (n / 10) (n % 10) rest (omega arith) (omega arith) (omega arith)
+      ∙ ap (λ m. digits close m rest) (omega arith)))
 
 pub numeral-decimal : (close n : ℕ) (rest : List ℕ) → n ≤ 2147483647 → close < 48 → numeral close (decimal n ++ close ∷ rest) ≡ found n rest
 unfolding digits pick
 numeral-decimal close n rest small below =
-    numeral-digits close below 9 n (close ∷ rest) (omega arith) small
-    ∙ rw (eq-eqb close close refl)
+    all-read close below 9 n (close ∷ rest) (omega arith) small ∙ rw (eq-eqb close close refl)
 
 -- ---- a number that is read was written
 
--- the same with the digit as a byte
-decimal-byte : (v b : ℕ) (l : List ℕ) → 0 < v → 48 ≤ b → b ≤ 57 → v * 10 + (b - 48) ≤ 2147483647
-    → decimal (v * 10 + (b - 48)) ++ l ≡ decimal v ++ b ∷ l
-decimal-byte v b l some low high small =
-    ap (λ ds. ds ++ l) (decimal-last v (b - 48) some (omega arith) small)
-    ∙ append-assoc (decimal v) ((b - 48 + 48) ∷ []) l
-    ∙ ap (λ c. decimal v ++ c ∷ l) (omega arith)
-
+-- the digits that make v, and those that are read behind them, are the digits of the number found
 digits-decimal : (close v w : ℕ) (l rest : List ℕ) → v ≤ 2147483647 → digits close v l ≡ found w rest
     → (decimal v ++ l ≡ decimal w ++ close ∷ rest) × (w ≤ 2147483647)
 unfolding digits pick
@@ -94,8 +91,9 @@ digits-decimal close v w (b ∷ l) rest small e =
     let some = not-refused (eqb v 0) _ (high .1) in
     let in-range = not-refused (ltb 2147483647 (v * 10 + (b - 48))) _ (some .1) in
     let fits = ltb-false 2147483647 (v * 10 + (b - 48)) (in-range .0) in
+    let one-more = decimal-digit v b l (omega (arith, eqb-false v 0 (some .0))) (ltb-false b 48 (low .0)) (ltb-false 57 b (high .0)) fits in
     let behind = digits-decimal close (v * 10 + (b - 48)) w l rest fits (in-range .1) in
-    (sym (decimal-byte v b l (omega (arith, eqb-false v 0 (some .0))) (ltb-false b 48 (low .0)) (ltb-false 57 b (high .0)) fits) ∙ behind .0, behind .1))
+    (sym one-more ∙ behind .0, behind .1))
 
 pub decimal-numeral : (close n : ℕ) (l rest : List ℕ) → numeral close l ≡ found n rest → (l ≡ decimal n ++ close ∷ rest) × (n ≤ 2147483647)
 unfolding numeral

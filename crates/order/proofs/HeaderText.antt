@@ -39,6 +39,7 @@ limits-within v t n e =
       few-orders = ltb-false 1024 n (few-orders .0);
     }
 
+-- the text field by field
 parts : (v t n : ℕ) (rest : List ℕ)
     → headerText v t n ++ rest ≡ bytes "BOX\t" ++ (decimal v ++ 9 ∷ (decimal t ++ 9 ∷ (decimal n ++ 10 ∷ rest)))
 parts v t n rest = simp append-assoc

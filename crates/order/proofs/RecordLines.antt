@@ -20,7 +20,7 @@ lines-again [] numbers = refl
 lines-again (o ∷ os) numbers =
     rw (record-again o (recordsText os) (numbers 0 (omega arith)), lines-again os (λ k l. numbers (suc k) (omega arith)))
 
--- the lines that n lines are read from a text
+-- what the lines at the front of l are, where at most n are read: they and the rest are all of l
 pub record Read (n : ℕ) (l : List ℕ) (ls : Lines) : Type 0 where
   pub most : length (ls .orders) ≤ n
   pub whole : l ≡ recordsText (ls .orders) ++ ls .rest

@@ -48,16 +48,20 @@ headings-told : (l : List ℕ) → map (λ s. recordAt (heading (s 0) ++ l)) sha
 unfolding shapes bytes recordAt recordAmong fixed pick onFront orderAt
 headings-told l = refl
 
+-- both at each number of the table
 heading-at : (k v : ℕ) → heading (orderOf k v) ≡ heading (orderOf k 0)
 unfolding orderOf
 heading-at k v = map-at (λ s. heading (s v)) (λ s. heading (s 0)) shapes (λ v. Stop) (same-headings v) refl k
 
 record-at : (k : ℕ) (l : List ℕ) → recordAt (heading (orderOf k 0) ++ l) ≡ orderAt (orderOf k) l
 unfolding orderOf shapes
-record-at k l = map-at (λ s. recordAt (heading (s 0) ++ l)) (λ s. orderAt s l) shapes (λ v. Stop) (headings-told l) (ap (λ m. getD m 0 missing) (headings-told l)) k
+record-at k l =
+    map-at (λ s. recordAt (heading (s 0) ++ l)) (λ s. orderAt s l) shapes (λ v. Stop) (headings-told l)
+    (ap (λ m. getD m 0 missing) (headings-told l)) k
 
 -- ---- the record of an order
 
+-- the text field by field
 parts : (o : Order) (rest : List ℕ) → recordText o ++ rest ≡ heading o ++ (decimal (operand o) ++ 10 ∷ rest)
 parts o rest =
     append-assoc (heading o ++ decimal (operand o)) (10 ∷ []) rest ∙ append-assoc (heading o) (decimal (operand o)) (10 ∷ rest)
@@ -70,6 +74,7 @@ record-again o rest small =
     ∙ record-at (number o) (decimal (operand o) ++ 10 ∷ rest)
     ∙ rw (numeral-decimal 10 (operand o) rest small (omega arith), order-again o, eq-eqb (operand o) (operand o) refl)
 
+-- a record read by the shapes of any table that keeps to the first rule
 among : (ss : List (ℕ → Order)) → ((v : ℕ) → map (λ s. heading (s v)) ss ≡ map (λ s. heading (s 0)) ss) → (o : Order) (l rest : List ℕ)
     → recordAmong ss l ≡ found o rest → (l ≡ recordText o ++ rest) × (operand o ≤ 2147483647)
 unfolding recordAmong onFront
