@@ -17,6 +17,12 @@ module _ {A : Type 0} where
   pub take-more : (l : List A) (i : ℕ) (d : A) → i < length l → take (i + 1) l ≡ take i l ++ (getD l i d ∷ [])
   take-more l i d h = rw (add-one i) (take-suc l i d h)
 
+  -- an element inside a list is the same whatever stands for one outside
+  pub getD-map-inside : {B : Type 0} (f : A → B) (l : List A) (i : ℕ) (d : B) (e : A) → i < length l → getD (map f l) i d ≡ f (getD l i e)
+  getD-map-inside f [] i d e h = absurd (omega arith)
+  getD-map-inside f (x ∷ l) zero d e h = refl
+  getD-map-inside f (x ∷ l) (suc i) d e h = getD-map-inside f l i d e (omega arith)
+
   -- ---- a run of stores
 
   pub sets-append : (l : List A) (i : ℕ) (vs ws : List A) → sets l i (vs ++ ws) ≡ sets (sets l i vs) (i + length vs) ws

@@ -1,3 +1,7 @@
+pub mod Turns
+pub mod Numbering
+pub mod Scanning
+pub mod Judging
 pub mod Numbers
 pub mod Fronts
 pub mod Decimal

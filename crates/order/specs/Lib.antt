@@ -1,3 +1,5 @@
 pub mod Order
 pub mod Object
 pub mod Good
+pub mod Answers
+pub mod Internal

@@ -1,4 +1,9 @@
 // Orders and object text, document 01.
+pub mod number;
+pub mod object;
+mod record;
+mod text;
+
 use word::Relation;
 
 // An operation on the accumulator and an operand.

@@ -1,0 +1,122 @@
+-- What the answers of the private functions stand for, and what their loops do. A reader of the promises needs none of it.
+use Prim.Native.Nat.{ℕ, _+_, _-_, _<_, _≤_}
+use mathlib.Core.Path.{_≡_}
+use mathlib.Core.List.{List, []}
+use lib.Dec.{ltb, eqb}
+use lib.ListN.{length, getD, take, drop}
+use Rattle.base.specs.Choice.{pick}
+use Rattle.order.specs.declared.Order.{Order}
+use Rattle.order.specs.declared.Order.the-variants.{Word, Number as OnNumber, Store, Neg, Not, Jump, Branch, Send, Stop}
+use Rattle.order.specs.declared.object.Head.{Head}
+use Rattle.order.specs.declared.object.Head.the-variants.{Found as FoundHead, Missing as NoHead}
+use Rattle.order.specs.declared.object.Scan.{Scan}
+use Rattle.order.specs.declared.object.Trouble.{Trouble}
+use Rattle.order.specs.declared.object.Trouble.the-variants.{Free, Word as BadWord, Address as BadAddress}
+use Rattle.order.specs.declared.record.Record.{Record}
+use Rattle.order.specs.declared.record.Record.the-variants.{Found, Missing as NoRecord}
+use Rattle.order.specs.declared.text.Place.{Place}
+use Rattle.order.specs.declared.text.Place.the-variants.{Behind, Missing}
+use Rattle.order.specs.declared.text.Numeral.{Numeral}
+use Rattle.order.specs.declared.text.Numeral.the-variants.{Number, Missing as NoNumber}
+use Rattle.order.specs.Order.{operand, shapes, orderOf}
+use Rattle.order.specs.Object.{Front, found, missing, onFront, fixed, numeral, heading, Header, Lines, Reading, refused, firstOperand, firstStop, isStop}
+use Rattle.order.specs.Answers.{Verdict, good, refusal}
+
+-- a place in the text s is the text behind it
+abbrev pub behind : List ℕ → Place → Front (List ℕ)
+behind s (Behind i) = found [] (drop i s)
+behind s Missing = missing
+
+abbrev pub numberFound : List ℕ → Numeral → Front ℕ
+numberFound s (Number v i) = found v (drop i s)
+numberFound s NoNumber = missing
+
+-- the orders with a number below 12
+unfoldable pub plainOrder : ℕ → ℕ → Order
+plainOrder k v = getD (take 12 shapes) k (λ v. Stop) v
+
+abbrev pub orderFound : List ℕ → Record → Front Order
+orderFound s (Found o i) = found o (drop i s)
+orderFound s NoRecord = missing
+
+-- the heading of the order with the number k, where j is below n
+abbrev pub headingAt : ℕ → ℕ → ℕ → List ℕ → Front (List ℕ)
+headingAt n j k l = pick (ltb j n) (fixed (heading (orderOf k 0)) l) missing
+
+-- the number of a record behind the heading of the order with the number k
+abbrev pub numberAfter : ℕ → List ℕ → Front Order
+numberAfter k l = onFront (numeral 10 l) (λ v l₁. pick (eqb (operand (orderOf k v)) v) (found (orderOf k v) l₁) missing) missing
+
+-- ---- the header
+
+abbrev pub headerFound : List ℕ → Head → Front Header
+headerFound s (FoundHead v t n i) = found (record { variables = v; temporaries = t; orders = n }) (drop i s)
+headerFound s NoHead = missing
+
+abbrev pub headerBounded : Head → Type 0
+headerBounded (FoundHead v t n i) = (v ≤ 64) × (t ≤ 32) × (0 < n) × (n ≤ 1024)
+headerBounded NoHead = Unit {0}
+
+-- ---- the records, one after the other
+
+abbrev pub wordTrouble : ℕ → ℕ → ℕ → Trouble
+wordTrouble w words place = pick (ltb w 2) (BadWord place) (pick (ltb w words) Free (BadWord place))
+
+abbrev pub addressTrouble : ℕ → ℕ → ℕ → Trouble
+addressTrouble a n place = pick (ltb a n) Free (BadAddress place)
+
+abbrev pub troubleOf : ℕ → ℕ → ℕ → Order → Trouble
+troubleOf words n place (Word f w) = wordTrouble w words place
+troubleOf words n place (OnNumber f k) = Free
+troubleOf words n place (Store w) = wordTrouble w words place
+troubleOf words n place Neg = Free
+troubleOf words n place Not = Free
+troubleOf words n place (Jump a) = addressTrouble a n place
+troubleOf words n place (Branch r a) = addressTrouble a n place
+troubleOf words n place Send = Free
+troubleOf words n place Stop = Free
+
+abbrev pub firstTrouble : Trouble → Trouble → Trouble
+firstTrouble Free after = after
+firstTrouble (BadWord k) after = BadWord k
+firstTrouble (BadAddress k) after = BadAddress k
+
+-- what is read where a trouble is met, else what comes after this check
+abbrev pub troubled : Trouble → Reading → Reading
+troubled Free after = after
+troubled (BadWord k) after = refused 23 k
+troubled (BadAddress k) after = refused 24 k
+
+abbrev pub nextStop : ℕ → ℕ → Order → ℕ
+nextStop before place o = pick (ltb before place) before (pick (isStop o) place (place + 1))
+
+abbrev pub notedScan : ℕ → ℕ → Order → ℕ → Scan → Scan
+notedScan words n o at scan = record {
+  at = at;
+  count = scan .count + 1;
+  trouble = firstTrouble (scan .trouble) (troubleOf words n (scan .count) o);
+  stop = nextStop (scan .stop) (scan .count) o;
+}
+
+-- what is known after the lines ls of the text s
+pub record ScanOf (words n : ℕ) (s : List ℕ) (ls : Lines) (scan : Scan) : Type 0 where
+  pub counted : scan .count ≡ length (ls .orders)
+  pub behind : drop (scan .at) s ≡ ls .rest
+  pub operands : (after : Reading) → firstOperand words n 0 (ls .orders) after ≡ troubled (scan .trouble) after
+  pub stops : scan .stop ≡ firstStop 0 (ls .orders)
+
+abbrev pub stopVerdict : ℕ → ℕ → ℕ → ℕ → Verdict
+stopVerdict stop v t n =
+    pick (eqb stop (n - 1)) (good v t n) (pick (ltb stop (n - 1)) (refusal 25 stop) (refusal 25 (n - 1)))
+
+abbrev pub troubleVerdict : Trouble → Verdict → Verdict
+troubleVerdict Free after = after
+troubleVerdict (BadWord k) after = refusal 23 k
+troubleVerdict (BadAddress k) after = refusal 24 k
+
+abbrev pub scanVerdict : Scan → ℕ → ℕ → ℕ → ℕ → Verdict
+scanVerdict scan len v t n =
+    pick
+    (ltb (scan .count) n)
+    (refusal 22 (scan .count))
+    (pick (ltb (scan .at) len) (refusal 22 n) (troubleVerdict (scan .trouble) (stopVerdict (scan .stop) v t n)))
