@@ -1,88 +1,86 @@
+use borrow.Author.Needs.{needs}
+use Prim.Native.Nat.{_-_}
+use mathlib.Core.Path.{sym}
+use native.Mathlib.Omega.{arith}
+use Rattle.order.specs.Order.{ordersOf}
+use Rattle.machine.proofs.Running.{ended-stays, Loop, start, lengths-kept, again, stopped, broke-off, out-of-budget}
 use Rattle.machine.proofs.run.Statement.{statement}
 use Rattle.machine.proofs.run.Tie as tie
-use Rattle.machine.proofs.run.Reads as reads
-use Rattle.machine.proofs.run.Lts as lts
-use Rattle.machine.proofs.end_with.Reads as end-with-reads
-use Rattle.machine.proofs.fault_ahead.Reads as fault-ahead-reads
-use Rattle.machine.proofs.step.Reads as step-reads
 
 abbrev Inv-loop : tie.InvT-loop
-Inv-loop numbers operands words₀ output₀ budget state₀ steps₀ words output state steps = ?
+Inv-loop numbers operands words₀ output₀ budget state₀ steps₀ words output state steps =
+    Loop (ordersOf numbers operands) budget state₀ words₀ output₀ steps state words output
 
 abbrev μ-loop : tie.MeasureT-loop
-μ-loop numbers operands words₀ output₀ budget state₀ steps₀ words output state steps = ?
+μ-loop numbers operands words₀ output₀ budget state₀ steps₀ words output state steps = budget - steps
 
--- src/lib.rt:328:9
 returns : tie.Need-returns Inv-loop μ-loop
-returns c = ?
+returns c = sym (ended-stays _ _ _ (c .if1 .taken))
 
--- src/lib.rt:335:5
 loop-holds : tie.Need-loop-holds Inv-loop μ-loop
-loop-holds c = ?
+loop-holds c = start _ _ _ _ _ (c .if1 .left)
 
--- src/lib.rt:336:9
-step-requires : tie.Need-step-requires Inv-loop μ-loop
-step-requires c κs = ?
-
--- src/lib.rt:341:28
 add-t17 : tie.Need-add-t17 Inv-loop μ-loop
-add-t17 c = ?
+add-t17 c = omega arith
 
--- src/lib.rt:340:17
 same-length : tie.Need-same-length Inv-loop μ-loop
-same-length c = ?
+same-length c =
+    let s = c .before .before .before .before .before .before in
+    let l = s .before .before .before .before in
+    lengths-kept _ _ _ _ _ _ _ _ _ _ _ _ (l .loop .inv) (s .step .ensures) .0
 
--- src/lib.rt:340:17
 same-length-2 : tie.Need-same-length-2 Inv-loop μ-loop
-same-length-2 c = ?
+same-length-2 c =
+    let s = c .before .before .before .before .before .before in
+    let l = s .before .before .before .before in
+    lengths-kept _ _ _ _ _ _ _ _ _ _ _ _ (l .loop .inv) (s .step .ensures) .1
 
--- src/lib.rt:340:17
 returns-2 : tie.Need-returns-2 Inv-loop μ-loop
-returns-2 c = ?
+returns-2 c =
+    let s = c .before .before .before .before .before .before in
+    let l = s .before .before .before .before in
+    stopped _ _ _ _ _ _ _ _ _ _ _ _ (l .loop .inv) (s .before .before .before .loop-test .taken) (s .step .ensures) (c .if3 .taken)
 
--- src/lib.rt:345:13
 same-length-3 : tie.Need-same-length-3 Inv-loop μ-loop
-same-length-3 c = ?
+same-length-3 c =
+    let s = c .before .before .before .before .before .before in
+    let l = s .before .before .before .before in
+    lengths-kept _ _ _ _ _ _ _ _ _ _ _ _ (l .loop .inv) (s .step .ensures) .0
 
--- src/lib.rt:345:13
 same-length-4 : tie.Need-same-length-4 Inv-loop μ-loop
-same-length-4 c = ?
+same-length-4 c =
+    let s = c .before .before .before .before .before .before in
+    let l = s .before .before .before .before in
+    lengths-kept _ _ _ _ _ _ _ _ _ _ _ _ (l .loop .inv) (s .step .ensures) .1
 
--- src/lib.rt:345:13
 returns-3 : tie.Need-returns-3 Inv-loop μ-loop
-returns-3 c = ?
+returns-3 c =
+    let s = c .before .before .before .before .before .before in
+    let l = s .before .before .before .before in
+    broke-off _ _ _ _ _ _ _ _ _ _ _ _ (l .loop .inv) (s .before .before .before .loop-test .taken) (s .step .ensures) (c .before .if2 .taken) (c .if3 .left)
 
--- src/lib.rt:350:9
 add-steps : tie.Need-add-steps Inv-loop μ-loop
-add-steps c = ?
+add-steps c = omega arith
 
--- src/lib.rt:335:5
 loop-less : tie.Need-loop-less Inv-loop μ-loop
-loop-less c = ?
+loop-less c = omega arith
 
--- src/lib.rt:335:5
 loop-again : tie.Need-loop-again Inv-loop μ-loop
-loop-again c = ?
+loop-again c =
+    let s = c .before .before .before .before .before in
+    let l = s .before .before .before .before in
+    again _ _ _ _ _ _ _ _ _ _ _ _ (l .loop .inv) (s .before .before .before .loop-test .taken) (s .step .ensures) (c .if2 .left)
 
--- src/lib.rt:354:29
-fault-ahead-requires : tie.Need-fault-ahead-requires Inv-loop μ-loop
-fault-ahead-requires c κs = ?
-
--- src/lib.rt:354:20
-end-with-requires : tie.Need-end-with-requires Inv-loop μ-loop
-end-with-requires c κs = ?
-
--- src/lib.rt:320:1
 same-length-5 : tie.Need-same-length-5 Inv-loop μ-loop
-same-length-5 c = ?
+same-length-5 c = c .before .before .before .before .before .loop .inv .same-words
 
--- src/lib.rt:320:1
 same-length-6 : tie.Need-same-length-6 Inv-loop μ-loop
-same-length-6 c = ?
+same-length-6 c = c .before .before .before .before .before .loop .inv .same-output
 
--- src/lib.rt:320:1
 returns-4 : tie.Need-returns-4 Inv-loop μ-loop
-returns-4 c = ?
+returns-4 c =
+    let l = c .before .before .before .before .before in
+    out-of-budget _ _ _ _ _ _ _ _ _ _ _ (l .loop .inv) (c .before .before .before .before .loop-test .left) (c .before .fault-ahead .ensures) (c .end-with .ensures)
 
 pub run-spec : {M : Type 1} → statement M
 run-spec =
@@ -92,7 +90,7 @@ run-spec =
     μ-loop
     returns
     loop-holds
-    step-requires
+    (λ c κs. search needs)
     add-t17
     same-length
     same-length-2
@@ -103,8 +101,8 @@ run-spec =
     add-steps
     loop-less
     loop-again
-    fault-ahead-requires
-    end-with-requires
+    (λ c κs. search needs)
+    (λ c κs. search needs)
     same-length-5
     same-length-6
     returns-4)
