@@ -2,4 +2,9 @@ pub mod Worked
 pub mod Orders
 pub mod Bytes
 pub mod Effects
-pub mod Running
+pub mod Steps
+pub mod Looping
+pub mod Resume
+pub mod Alike
+pub mod Kept
+pub mod Frame

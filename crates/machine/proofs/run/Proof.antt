@@ -3,7 +3,8 @@ use Prim.Native.Nat.{_-_}
 use mathlib.Core.Path.{sym}
 use native.Mathlib.Omega.{arith}
 use Rattle.order.specs.Order.{ordersOf}
-use Rattle.machine.proofs.Running.{ended-stays, Loop, start, lengths-kept, again, stopped, broke-off, out-of-budget}
+use Rattle.machine.proofs.Steps.{ended-stays}
+use Rattle.machine.proofs.Looping.{Loop, start, lengths-kept, again, stopped, broke-off, out-of-budget}
 use Rattle.machine.proofs.run.Statement.{statement}
 use Rattle.machine.proofs.run.Tie as tie
 

@@ -1,48 +1,16 @@
--- A run unfolded by one order, and the loop of the function `run`.
-use Prim.Native.Nat.{ℕ, zero, suc, _+_, _-_, _<_, _≤_}
+-- The loop of the function `run`: its invariant, and what each way out of it leaves.
+use Prim.Native.Nat.{ℕ, suc, _+_, _-_, _<_, _≤_}
 use mathlib.Core.Path.{_≡_, refl, sym, ap, _∙_}
 use mathlib.Core.List.{List}
 use native.Mathlib.Omega.{arith}
 use native.Mathlib.Nat.{add-zero, sub-zero}
-use borrow.Author.Tests.{eq-eqb, ne-eqb}
-use lib.ListN.{length, getD}
-use Rattle.base.specs.Choice.{pick}
+use lib.ListN.{length}
 use Rattle.order.specs.declared.Order.{Order}
-use Rattle.order.specs.declared.Order.the-variants.{Stop}
 use Rattle.machine.specs.declared.Registers.{Registers}
-use Rattle.machine.specs.Machine.{Machine, machine, Effect, done, failed, Run, ran, endWith, ending, nextEffect, oneMore, faulted, run}
+use Rattle.machine.specs.Machine.{Machine, machine, Effect, done, failed, Run, ran, endWith, nextEffect, oneMore, run}
 use Rattle.machine.specs.Internal.{stepped, faultOf}
-use Rattle.machine.proofs.Effects.{Fate, goes, ends, fails, case, fate}
-
--- ---- a run by what its next order does
-
-module _ (os : List Order) (m : Machine) where
-  -- "An ended state takes no step and reports its ending again."
-  pub ended-stays : (b : ℕ) → (ending m ≡ 0 → ⊥) → run os b m ≡ ran 0 m
-  unfolding run pick
-  ended-stays zero ended = rw (ne-eqb (ending m) 0 ended)
-  ended-stays (suc b) ended = rw (ne-eqb (ending m) 0 ended)
-
-  -- "a faulting order is not counted"; "A fault is met even with no budget left": b may be 0
-  pub fault-is-met : (b n : ℕ) → ending m ≡ 0 → nextEffect os m ≡ failed n → run os b m ≡ faulted n m
-  unfolding run pick
-  fault-is-met zero n going e = rw (eq-eqb (ending m) 0 going, e)
-  fault-is-met (suc b) n going e = rw (eq-eqb (ending m) 0 going, e)
-
-  pub no-budget : (after : Machine) → ending m ≡ 0 → nextEffect os m ≡ done after → run os 0 m ≡ ran 0 m
-  unfolding run pick
-  no-budget after going e = rw (eq-eqb (ending m) 0 going, e)
-
-  -- "One order carried out is one step"
-  pub one-order : (b : ℕ) (after : Machine) → ending m ≡ 0 → nextEffect os m ≡ done after → run os (suc b) m ≡ oneMore (run os b after)
-  unfolding run pick
-  one-order b after going e = rw (eq-eqb (ending m) 0 going, e)
-
--- the fate of the next order
-next-fate : (os : List Order) (r : Registers) (ws out : List ℕ) → Fate r ws out (nextEffect os (machine r ws out))
-next-fate os r ws out = fate (case r ws out (getD os (r .next) Stop))
-
--- ---- the loop
+use Rattle.machine.proofs.Effects.{Fate, goes, ends, fails}
+use Rattle.machine.proofs.Steps.{ended-stays, fault-is-met, no-budget, one-order, next-fate}
 
 -- k steps more
 abbrev more : ℕ → Run → Run
