@@ -1,0 +1,72 @@
+use Prim.Native.Nat.{_-_, _≤_}
+use mathlib.Core.Path.{_≡_, refl}
+use native.Mathlib.Omega.{arith}
+use lib.ListN.{length, take}
+use lib.Seq.{sets}
+use Rattle.skimp.specs.State.{wordsBytes}
+use Rattle.skimp.proofs.Bytes.{store-turn, store-over, stored-length}
+use Rattle.skimp.proofs.state.store_words.Statement.{statement}
+use Rattle.skimp.proofs.state.store_words.Tie as tie
+
+abbrev Inv-loop : tie.InvT-loop
+Inv-loop s₀ words i₀ s i = (s ≡ sets s₀ 20 (wordsBytes (take i words))) × (i ≤ length words) × (length words ≤ 98)
+
+abbrev μ-loop : tie.MeasureT-loop
+μ-loop s₀ words i₀ s i = length words - i
+
+loop-holds : tie.Need-loop-holds Inv-loop μ-loop
+unfolding wordsBytes
+loop-holds c = (refl, omega arith, c .before .before .pre)
+
+mul-put-word : tie.Need-mul-put-word Inv-loop μ-loop
+mul-put-word c = record { fits = omega (arith, c .before .before .loop .inv .1, c .before .before .loop .inv .2) }
+
+add-put-word : tie.Need-add-put-word Inv-loop μ-loop
+add-put-word c = record { fits = omega (arith, c .before .before .loop .inv .1, c .before .before .loop .inv .2) }
+
+mul-put-word-2 : tie.Need-mul-put-word-2 Inv-loop μ-loop
+mul-put-word-2 c = record { fits = omega (arith, c .before .before .loop .inv .1, c .before .before .loop .inv .2) }
+
+shared-slice-read-put-word : tie.Need-shared-slice-read-put-word Inv-loop μ-loop
+shared-slice-read-put-word c = c .before .before .loop-test .taken
+
+put-word-requires : tie.Need-put-word-requires Inv-loop μ-loop
+put-word-requires c κs = omega (arith, c .before .before .loop-test .taken, c .before .before .before .loop .inv .2)
+
+add-i : tie.Need-add-i Inv-loop μ-loop
+add-i c = record { fits = omega (arith, c .before .before .before .before .before .before .loop .inv .1, c .before .before .before .before .before .before .loop .inv .2) }
+
+loop-less : tie.Need-loop-less Inv-loop μ-loop
+loop-less c = omega (arith, c .before .before .before .before .before .loop-test .taken)
+
+loop-again : tie.Need-loop-again Inv-loop μ-loop
+loop-again c =
+    let l = c .before .before .before .before .before .before .loop in
+    let h = c .before .before .before .before .before .loop-test .taken in
+    (rw (c .before .before .put-word .ensures, l .inv .0) (store-turn _ _ _ h), omega (arith, h), l .inv .2)
+
+same-length : tie.Need-same-length Inv-loop μ-loop
+same-length c =
+    let a = c .before .before .before .before .args in
+    stored-length (c .before .loop .s) (a .s .now) (a .words .now) (c .before .loop .i) (c .before .loop .inv .0)
+
+returns : tie.Need-returns Inv-loop μ-loop
+returns c = store-over _ _ _ _ (c .before .loop .inv .0) (c .loop-test .left)
+
+pub store-words-spec : {M : Type 1} → statement M
+store-words-spec =
+    tie.close
+    (tie.spec
+    Inv-loop
+    μ-loop
+    loop-holds
+    mul-put-word
+    add-put-word
+    mul-put-word-2
+    shared-slice-read-put-word
+    put-word-requires
+    add-i
+    loop-less
+    loop-again
+    same-length
+    returns)

@@ -1,0 +1,117 @@
+// Running the orders of an object from a state's bytes.
+use crate::state::load_words;
+use crate::state::registers;
+use crate::state::store_registers;
+use crate::state::store_words;
+use machine::Registers;
+ghost use mathlib.Core.Path.{_≡_};
+ghost use Prim.Native.Nat.{_+_, _*_, _≤_};
+ghost use lib.ListN.{length};
+ghost use Rattle.order.specs.Order.{ordersOf};
+ghost use Rattle.machine.specs.Machine.{machine, run as spec-run};
+ghost use Rattle.skimp.specs.State.{registersOf, wordsAt};
+ghost use Rattle.skimp.specs.Run.{call, reply as replyOf, ranCall, objectCall, isEnding, registersFit, stateFits};
+
+pub(crate) fn reply(number: u32, value: u32) -> u64
+    ensures { λ r. ⌜ r ≡ replyOf number value ⌝ }
+{
+    number as u64 * 4294967296 + value as u64
+}
+
+fn is_ending(e: u32) -> bool
+    ensures { λ r. ⌜ r ≡ isEnding e ⌝ }
+{
+    if e < 5 {
+        return true;
+    }
+    e == 20
+}
+
+// 26: whether registers fit an object with n orders and an output with so much room.
+fn registers_fit(n: u32, room: u64, r: Registers) -> bool
+    ensures { λ b. ⌜ b ≡ registersFit n room r ⌝ }
+{
+    if (n as usize) <= r.next {
+        return false;
+    }
+    if room < r.sent {
+        return false;
+    }
+    is_ending(r.ending)
+}
+
+// 26: whether a state fits an object with so many words and n orders.
+fn state_fits(words: usize, n: u32, state: &[u8], output: &[u8]) -> bool
+    requires { ⌜ words ≤ 98 ⌝ }
+    ensures { λ r. ⌜ r ≡ stateFits words n (now (state .entry)) (now (output .entry)) ⌝ }
+{
+    if state.len() != 20 + 4 * words {
+        return false;
+    }
+    let room = (output.len() / 4) as u64;
+    registers_fit(n, room, registers(state))
+}
+
+// The run itself, with a lent array of the object's words.
+fn run_with(
+    numbers: &[u8],
+    operands: &[u32],
+    words: &mut [u32],
+    state: &mut [u8],
+    output: &mut [u8],
+    budget: u32,
+) -> u64
+    requires few { ⌜ length (now words) ≤ 98 ⌝ }
+    requires fitting { ⌜ length (now state) ≡ 20 + 4 * length (now words) ⌝ }
+    ensures { λ r. ⌜ call r (now (state .exit)) (now (output .exit))
+        ≡ ranCall
+        (spec-run
+        (ordersOf (now (numbers .entry)) (now (operands .entry)))
+        budget
+        (machine
+        (registersOf (now (state .entry)))
+        (wordsAt (length (now (words .entry))) 20 (now (state .entry)))
+        (now (output .entry)))) ⌝ }
+{
+    load_words(state, words);
+    let r = registers(state);
+    let done = machine::run(numbers, operands, words, output, r, budget);
+    let after = done.registers;
+    store_registers(state, after);
+    store_words(state, words);
+    reply(after.ending, done.steps)
+}
+
+// Runs orders in a frame of so many words, or refuses the state.
+pub(crate) fn run_orders(
+    numbers: &[u8],
+    operands: &[u32],
+    words: usize,
+    n: u32,
+    state: &mut [u8],
+    output: &mut [u8],
+    budget: u32,
+) -> u64
+    requires { ⌜ words ≤ 98 ⌝ }
+    ensures { λ r. ⌜ call r (now (state .exit)) (now (output .exit))
+        ≡ objectCall
+        words
+        n
+        (ordersOf (now (numbers .entry)) (now (operands .entry)))
+        (now (state .entry))
+        (now (output .entry))
+        budget ⌝ }
+{
+    let mut frame = [0u32; 98];
+    if state_fits(words, n, state, output) {
+        return run_with(
+            numbers,
+            operands,
+            &mut frame[..words],
+            state,
+            output,
+            budget,
+        );
+    }
+    reply(26, 0)
+}
