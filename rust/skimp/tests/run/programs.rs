@@ -1,5 +1,6 @@
 //! Whole runs of random good objects.
 
+use crate::call::Call;
 use crate::program::{random_call, Program, Style, MOST_ORDERS, STYLES};
 use crate::random::Random;
 
@@ -40,6 +41,24 @@ struct Tally {
     used_up_budgets: usize,
 }
 
+impl Tally {
+    fn add(&mut self, source: &str, call: &Call) {
+        let outcome = call.outcome(source);
+        if call.state[16..20] != [0; 4] {
+            self.ended_before += 1;
+            assert_eq!(outcome.value, 0, "{source}: an ended state took a step");
+            assert_eq!(outcome.state, call.state, "{source}: an ended state moved");
+            assert_eq!(u32::from(outcome.state[19]), outcome.number, "{source}");
+            return;
+        }
+        let fault = (1..=4).contains(&outcome.number);
+        self.endings[outcome.number as usize] += 1;
+        self.faults_without_budget += usize::from(fault && call.budget == 0);
+        self.steps += u64::from(outcome.value);
+        self.used_up_budgets += usize::from(outcome.number == 0 && call.budget == 10_000);
+    }
+}
+
 #[test]
 fn random_programs() {
     let source = "random programs, seed 1";
@@ -52,20 +71,7 @@ fn random_programs() {
         for _ in 0..RUNS {
             let budget = budget(&mut random, style);
             let call = random_call(&mut random, &program, budget);
-            let ended = call.state[16..20] != [0; 4];
-            let outcome = call.outcome(source);
-            if ended {
-                tally.ended_before += 1;
-                assert_eq!(outcome.value, 0, "{source}: an ended state took a step");
-                assert_eq!(outcome.state, call.state, "{source}: an ended state moved");
-                assert_eq!(outcome.state[19] as u32, outcome.number, "{source}");
-                continue;
-            }
-            let fault = (1..=4).contains(&outcome.number);
-            tally.endings[outcome.number as usize] += 1;
-            tally.faults_without_budget += usize::from(fault && budget == 0);
-            tally.steps += u64::from(outcome.value);
-            tally.used_up_budgets += usize::from(outcome.number == 0 && budget == 10_000);
+            tally.add(source, &call);
         }
     }
     for (number, least) in [

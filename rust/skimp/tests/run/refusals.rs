@@ -4,6 +4,38 @@ use crate::call::Call;
 use crate::program::{state, Program};
 use crate::random::Random;
 
+/// Headers refused with 21.
+#[rustfmt::skip]
+const BAD_HEADERS: [&str; 33] = [
+    "", "\n", "BOX", "BOX 1 1 1", "BOX 1 1\n", "BOX 1 1 1 \n", "BOX 1 1 1 1\n", "BOX  1 1 1\n",
+    "BOX 1 1 0\n", "BOX 1 1 1025\n", "BOX 65 1 1\n", "BOX 1 33 1\n", "BOX 01 1 1\n",
+    "BOX 1 00 1\n", "BOX 1 1 01\n", "BOX 1 1 \n", "BOX +1 1 1\n", "BOX 1 -1 1\n", "BOX 1 1 1\r\n",
+    "BOX_1 1 1\n", "BOX 1 1 1_\n", "box 1 1 1\n", "BOXX 1 1 1\n", "BO 1 1 1\n", " BOX 1 1 1\n",
+    "BOX 4294967297 1 1\n", "BOX 1 4294967297 1\n", "BOX 1 1 4294967297\n",
+    "BOX 18446744073709551617 1 1\n", "BOX 1 1 99999999999999999999\n", "SHEET 1 1 1\n",
+    "\nBOX 1 1 1\n", "BOX 1 1 2147483647\n",
+];
+
+/// Records that are good as the middle one of three.
+#[rustfmt::skip]
+const GOOD_LINES: [&str; 13] = [
+    "LOAD D 2", "LOAD D 3", "LOAD K 0", "LOAD K 2147483647", "STR D 2", "JMP A 0", "BE A 1",
+    "BGE A 2", "CMP K 7", "OR D 3", "SEND - 0", "NEG - 0", "NOT - 0",
+];
+
+/// Lines refused with 22.
+#[rustfmt::skip]
+const BAD_LINES: [&str; 54] = [
+    "", "LOAD", "LOAD D", "LOAD D ", "LOAD D 2 ", "LOAD D 2 0", "LOAD_D 2", "LOAD D_2",
+    "_LOAD D 2", "LOAD D 2_", "LOAD D 02", "LOAD K 00", "LOAD K 07", "LOAD K +1", "LOAD K -1",
+    "LOAD K 2147483648", "LOAD K 4294967296", "LOAD K 99999999999999999999", "LOAD K 1x",
+    "LOAD A 2", "LOAD - 0", "load D 2", "LOADX D 2", "LOA D 2", "LOAD d 2", "LOAD DK 2",
+    "LOAD  2", " D 2", "STR K 2", "STR A 2", "STR - 0", "JMP D 2", "JMP K 2", "JMP - 0", "BE D 2",
+    "BGE K 1", "B A 1", "BL A 1", "BLEE A 1", "NEG - 1", "NEG K 0", "NEG D 2", "NEG - 00",
+    "NEG - ", "NOT A 0", "SEND D 2", "SEND - 5", "STOP - 1", "STOP K 0", "STOP A 0", "BOX 1 1 3",
+    "LOAD D 2\r", "CALL A 0", "LOAD D 2\0",
+];
+
 /// Calls with a text in which spaces stand for tabs and `_` for a space.
 fn reply(text: &str) -> (u32, u32) {
     let object = text.replace(' ', "\t").replace('_', " ").into_bytes();
@@ -27,121 +59,18 @@ fn headers() {
         // accepted, but the state of four words does not fit
         assert_eq!(reply(&format!("{header}{good}")), (26, 0), "{header}");
     }
-    for header in [
-        "",
-        "\n",
-        "BOX",
-        "BOX 1 1 1",
-        "BOX 1 1\n",
-        "BOX 1 1 1 \n",
-        "BOX 1 1 1 1\n",
-        "BOX  1 1 1\n",
-        "BOX 1 1 0\n",
-        "BOX 1 1 1025\n",
-        "BOX 65 1 1\n",
-        "BOX 1 33 1\n",
-        "BOX 01 1 1\n",
-        "BOX 1 00 1\n",
-        "BOX 1 1 01\n",
-        "BOX 1 1 \n",
-        "BOX +1 1 1\n",
-        "BOX 1 -1 1\n",
-        "BOX 1 1 1\r\n",
-        "BOX_1 1 1\n",
-        "BOX 1 1 1_\n",
-        "box 1 1 1\n",
-        "BOXX 1 1 1\n",
-        "BO 1 1 1\n",
-        " BOX 1 1 1\n",
-        "BOX 4294967297 1 1\n",
-        "BOX 1 4294967297 1\n",
-        "BOX 1 1 4294967297\n",
-        "BOX 18446744073709551617 1 1\n",
-        "BOX 1 1 99999999999999999999\n",
-        "SHEET 1 1 1\n",
-        "\nBOX 1 1 1\n",
-        "BOX 1 1 2147483647\n",
-    ] {
+    for header in BAD_HEADERS {
         assert_eq!(reply(&format!("{header}{good}")), (21, 0), "{header:?}");
     }
 }
 
 #[test]
 fn lines() {
-    for line in [
-        "LOAD D 2",
-        "LOAD D 3",
-        "LOAD K 0",
-        "LOAD K 2147483647",
-        "STR D 2",
-        "JMP A 0",
-        "BE A 1",
-        "BGE A 2",
-        "CMP K 7",
-        "OR D 3",
-        "SEND - 0",
-        "NEG - 0",
-        "NOT - 0",
-    ] {
+    for line in GOOD_LINES {
         let text = format!("BOX 1 1 3\nNEG - 0\n{line}\nSTOP - 0\n");
         assert!(reply(&text).0 <= 20, "{line} is refused");
     }
-    for line in [
-        "",
-        "LOAD",
-        "LOAD D",
-        "LOAD D ",
-        "LOAD D 2 ",
-        "LOAD D 2 0",
-        "LOAD_D 2",
-        "LOAD D_2",
-        "_LOAD D 2",
-        "LOAD D 2_",
-        "LOAD D 02",
-        "LOAD K 00",
-        "LOAD K 07",
-        "LOAD K +1",
-        "LOAD K -1",
-        "LOAD K 2147483648",
-        "LOAD K 4294967296",
-        "LOAD K 99999999999999999999",
-        "LOAD K 1x",
-        "LOAD A 2",
-        "LOAD - 0",
-        "load D 2",
-        "LOADX D 2",
-        "LOA D 2",
-        "LOAD d 2",
-        "LOAD DK 2",
-        "LOAD  2",
-        " D 2",
-        "STR K 2",
-        "STR A 2",
-        "STR - 0",
-        "JMP D 2",
-        "JMP K 2",
-        "JMP - 0",
-        "BE D 2",
-        "BGE K 1",
-        "B A 1",
-        "BL A 1",
-        "BLEE A 1",
-        "NEG - 1",
-        "NEG K 0",
-        "NEG D 2",
-        "NEG - 00",
-        "NEG - ",
-        "NOT A 0",
-        "SEND D 2",
-        "SEND - 5",
-        "STOP - 1",
-        "STOP K 0",
-        "STOP A 0",
-        "BOX 1 1 3",
-        "LOAD D 2\r",
-        "CALL A 0",
-        "LOAD D 2\0",
-    ] {
+    for line in BAD_LINES {
         let text = format!("BOX 1 1 3\nNEG - 0\n{line}\nSTOP - 0\n");
         assert_eq!(reply(&text), (22, 1), "{line:?}");
     }

@@ -24,7 +24,12 @@ fn object(orders: &[&str]) -> Vec<u8> {
 
 const LEAST: u32 = 0x8000_0000;
 const MOST: u32 = 0x7FFF_FFFF;
-const MINUS_1: u32 = 0xFFFF_FFFF;
+const MINUS_1: u32 = 1_u32.wrapping_neg();
+const MINUS_2: u32 = 2_u32.wrapping_neg();
+const MINUS_3: u32 = 3_u32.wrapping_neg();
+const MINUS_7: u32 = 7_u32.wrapping_neg();
+const MINUS_8: u32 = 8_u32.wrapping_neg();
+const MINUS_21: u32 = 21_u32.wrapping_neg();
 
 #[test]
 fn worked_object_is_that_of_document_01() {
@@ -87,46 +92,48 @@ fn on_words(name: &str, acc: u32, word: u32) -> Result<u32, u32> {
     }
 }
 
+/// An order, the accumulator, the word, and the accumulator after it or its fault.
+const ARITHMETIC: [(&str, u32, u32, Result<u32, u32>); 35] = [
+    ("LOAD", 5, MINUS_1, Ok(MINUS_1)),
+    ("ADD", MOST, 1, Ok(LEAST)),
+    ("SUB", 2, 5, Ok(MINUS_3)),
+    ("SUB", LEAST, 1, Ok(MOST)),
+    ("MLT", 65536, 65536, Ok(0)),
+    ("MLT", MINUS_3, 7, Ok(MINUS_21)),
+    ("DIV", MINUS_7, 2, Ok(MINUS_3)),
+    ("DIV", 7, MINUS_2, Ok(MINUS_3)),
+    ("DIV", MINUS_3, 2, Ok(MINUS_1)),
+    ("DIV", LEAST, MINUS_1, Ok(LEAST)),
+    ("DIV", LEAST, LEAST, Ok(1)),
+    ("DIV", 5, 0, Err(1)),
+    ("DIV", 0, 0, Err(1)),
+    ("EXP", 0, 0, Ok(1)),
+    ("EXP", 2, 31, Ok(LEAST)),
+    ("EXP", 2, 32, Ok(0)),
+    ("EXP", MINUS_2, 3, Ok(MINUS_8)),
+    ("EXP", MINUS_1, MOST, Ok(MINUS_1)),
+    ("EXP", 0, MINUS_1, Err(2)),
+    ("EXP", 1, MINUS_1, Err(2)),
+    ("EXP", 2, LEAST, Err(2)),
+    ("SHL", 3, 31, Ok(LEAST)),
+    ("SHL", 1, 32, Err(3)),
+    ("SHL", 1, MINUS_1, Err(3)),
+    ("SHR", MINUS_1, 31, Ok(1)),
+    ("SHR", MINUS_1, 0, Ok(MINUS_1)),
+    ("SHR", 1, 32, Err(3)),
+    ("SHR", 1, LEAST, Err(3)),
+    ("AND", 6, 3, Ok(2)),
+    ("OR", 6, 3, Ok(7)),
+    ("XOR", 6, 3, Ok(5)),
+    ("CMP", MOST, LEAST, Ok(1)),
+    ("CMP", LEAST, MOST, Ok(MINUS_1)),
+    ("CMP", LEAST, LEAST, Ok(0)),
+    ("CMP", MINUS_1, 0, Ok(MINUS_1)),
+];
+
 #[test]
 fn word_arithmetic() {
-    let minus = |word: u32| word.wrapping_neg();
-    for (name, acc, word, expected) in [
-        ("LOAD", 5, MINUS_1, Ok(MINUS_1)),
-        ("ADD", MOST, 1, Ok(LEAST)),
-        ("SUB", 2, 5, Ok(minus(3))),
-        ("SUB", LEAST, 1, Ok(MOST)),
-        ("MLT", 65536, 65536, Ok(0)),
-        ("MLT", minus(3), 7, Ok(minus(21))),
-        ("DIV", minus(7), 2, Ok(minus(3))),
-        ("DIV", 7, minus(2), Ok(minus(3))),
-        ("DIV", minus(3), 2, Ok(minus(1))),
-        ("DIV", LEAST, MINUS_1, Ok(LEAST)),
-        ("DIV", LEAST, LEAST, Ok(1)),
-        ("DIV", 5, 0, Err(1)),
-        ("DIV", 0, 0, Err(1)),
-        ("EXP", 0, 0, Ok(1)),
-        ("EXP", 2, 31, Ok(LEAST)),
-        ("EXP", 2, 32, Ok(0)),
-        ("EXP", minus(2), 3, Ok(minus(8))),
-        ("EXP", MINUS_1, MOST, Ok(MINUS_1)),
-        ("EXP", 0, MINUS_1, Err(2)),
-        ("EXP", 1, MINUS_1, Err(2)),
-        ("EXP", 2, LEAST, Err(2)),
-        ("SHL", 3, 31, Ok(LEAST)),
-        ("SHL", 1, 32, Err(3)),
-        ("SHL", 1, MINUS_1, Err(3)),
-        ("SHR", MINUS_1, 31, Ok(1)),
-        ("SHR", MINUS_1, 0, Ok(MINUS_1)),
-        ("SHR", 1, 32, Err(3)),
-        ("SHR", 1, LEAST, Err(3)),
-        ("AND", 6, 3, Ok(2)),
-        ("OR", 6, 3, Ok(7)),
-        ("XOR", 6, 3, Ok(5)),
-        ("CMP", MOST, LEAST, Ok(1)),
-        ("CMP", LEAST, MOST, Ok(MINUS_1)),
-        ("CMP", LEAST, LEAST, Ok(0)),
-        ("CMP", MINUS_1, 0, Ok(MINUS_1)),
-    ] {
+    for (name, acc, word, expected) in ARITHMETIC {
         assert_eq!(on_words(name, acc, word), expected, "{name} {acc} {word}");
     }
 }
@@ -205,4 +212,18 @@ fn sending() {
     output.extend([0x80, 0, 0, 0, 0x80, 0, 0, 0, 0xEE, 0xEE, 0xEE]);
     assert_eq!(run.output, output);
     assert_eq!(run.state, state(LEAST, 2, 3, 4, &[1, 2, 3, LEAST]));
+}
+
+/// Slices of no bytes, as Rust has them: their pointers lead to no memory.
+#[test]
+fn empty_slices() {
+    let run = |object: &[u8], state: &mut [u8]| {
+        let reply = skimp::run(object, state, &mut [], 1);
+        (reply.number, reply.value)
+    };
+    assert_eq!(run(&[], &mut []), (21, 0));
+    assert_eq!(run(WORKED, &mut []), (26, 0));
+    assert_eq!(run(b"BOX\t0\t0\t1\nSTOP\t-\t0\n", &mut [0; 28]), (20, 1));
+    let sends = b"BOX\t0\t0\t2\nSEND\t-\t0\nSTOP\t-\t0\n";
+    assert_eq!(run(sends, &mut [0; 28]), (4, 0));
 }
