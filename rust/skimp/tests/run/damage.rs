@@ -131,39 +131,19 @@ fn some_line(random: &mut Random, text: &[u8]) -> usize {
     random.below(newlines.max(1))
 }
 
+/// Texts in place of a number. Some are numbers over the limit that would do modulo 2^32 or 2^64.
+#[rustfmt::skip]
+const NUMBERS: [&[u8]; 26] = [
+    b"0", b"1", b"2", b"31", b"33", b"64", b"65", b"1023", b"1024", b"1025", b"2147483647",
+    b"2147483648", b"4294967295", b"4294967296", b"4294967298", b"10000000000",
+    b"18446744073709551616", b"18446744073709551618", b"99999999999999999999",
+    b"", b"00", b"07", b"+1", b"-1", b" 1", b"1 ",
+];
+
 fn change_number(random: &mut Random, text: &mut Vec<u8>) {
-    // many are good numbers modulo 2^32 or 2^64
-    let numbers: [&[u8]; 26] = [
-        b"0",
-        b"1",
-        b"2",
-        b"31",
-        b"33",
-        b"64",
-        b"65",
-        b"1023",
-        b"1024",
-        b"1025",
-        b"2147483647",
-        b"2147483648",
-        b"4294967295",
-        b"4294967296",
-        b"4294967298",
-        b"10000000000",
-        b"18446744073709551616",
-        b"18446744073709551618",
-        b"99999999999999999999",
-        b"",
-        b"00",
-        b"07",
-        b"+1",
-        b"-1",
-        b" 1",
-        b"1 ",
-    ];
     let line = some_line(random, text);
     let field = if line == 0 { random.between(1, 3) } else { 2 };
-    set_field(text, line, field, random.pick(&numbers), false);
+    set_field(text, line, field, random.pick(&NUMBERS), false);
 }
 
 fn change_kind(random: &mut Random, text: &mut Vec<u8>) {
