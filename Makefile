@@ -1,11 +1,28 @@
-.PHONY: test demo
+.PHONY: test demo bench
 
-# The gate: proofs, must-fail edits, programs, and the tests in rust/.
+CFLAGS = -std=c99 -Wall -Wextra -Werror -O2
+ARCHIVE = target/staticlib/libskimp.a
+
+# The gate: proofs, must-fail edits, programs, the tests in rust/, and the supervisor in examples/.
 test:
 	@tools/gate
 
-# What the project does so far: document 01's readings of word arithmetic.
+# What the project does so far: document 01's readings of word arithmetic, and its worked object run in slices.
 demo:
 	@mkdir -p target
 	@rt check readings >target/demo.log 2>&1 || { cat target/demo.log; exit 1; }
 	@target/bin/readings
+	@rt staticlib skimp >target/demo.log 2>&1 || { cat target/demo.log; exit 1; }
+	@$(MAKE) --no-print-directory target/demo/supervisor
+	@target/demo/supervisor -s 5 examples/worked.box
+
+# The proved run's time for a step against that of plain Rust.
+bench:
+	@mkdir -p target
+	@rt staticlib skimp >target/bench.log 2>&1 || { cat target/bench.log; exit 1; }
+	@cd rust && cargo run --release --offline --locked --quiet --package skimp --example bench
+
+# The archive comes from `rt staticlib skimp`.
+target/demo/supervisor: examples/supervisor.c include/skimp.h $(ARCHIVE)
+	@mkdir -p $(@D)
+	@$(CC) $(CFLAGS) -Iinclude examples/supervisor.c $(ARCHIVE) -o $@

@@ -1,0 +1,80 @@
+/* SKIMP for the battery box: the functions that the box's supervisor calls.
+ *
+ * "Document 01" is 01-scope.md, the scope and its exact rules. Every promise below is proved for all inputs.
+ *
+ * No function keeps anything between calls, allocates, or reads or writes anything but the bytes that it is lent. Any
+ * pointer with its length is taken; where the length is 0, the pointer is not used, but must not be null. The slices of a
+ * call must not overlap. */
+#ifndef SKIMP_H
+#define SKIMP_H
+
+#include <stddef.h>
+#include <stdint.h>
+
+#ifdef __cplusplus
+extern "C" {
+#endif
+
+/* A result is number * 2^32 + value. */
+#define SKIMP_NUMBER(result) ((uint32_t)((uint64_t)(result) >> 32))
+#define SKIMP_VALUE(result) ((uint32_t)((uint64_t)(result) & 0xffffffffu))
+
+/* Numbers that skimp_run replies with. */
+enum skimp_run_number {
+    SKIMP_OUT_OF_BUDGET = 0,
+    SKIMP_FAULT_ZERO_DIVISOR = 1,
+    SKIMP_FAULT_NEGATIVE_EXPONENT = 2,
+    SKIMP_FAULT_SHIFT_COUNT = 3,
+    SKIMP_FAULT_OUTPUT_FULL = 4,
+    SKIMP_STOPPED = 20,
+    SKIMP_BAD_HEADER = 21,
+    SKIMP_BAD_LINE = 22,
+    SKIMP_BAD_WORD = 23,
+    SKIMP_BAD_ADDRESS = 24,
+    SKIMP_BAD_STOP = 25,
+    SKIMP_BAD_STATE = 26
+};
+
+/* The bytes of a state: four numbers, highest byte first, then the words of the frame.
+ *
+ *   bytes 0 to 3    accumulator
+ *   bytes 4 to 7    next order
+ *   bytes 8 to 15   count of numbers sent
+ *   bytes 16 to 19  ending: 0 none, 1 to 4 that fault, 20 stopped
+ *   bytes 20 on     words 0, 1, 2 .., four bytes each, highest first: V + T + 2 of them
+ *
+ * V and T stand in the object's header. A state of zero bytes only is the start of a run. */
+#define SKIMP_STATE_HEADER 20
+#define SKIMP_STATE_BYTES(variables, temporaries) (SKIMP_STATE_HEADER + 4 * ((size_t)(variables) + (temporaries) + 2))
+/* the longest state of any object: 64 variables and 32 temporaries */
+#define SKIMP_STATE_MOST SKIMP_STATE_BYTES(64, 32)
+
+/* Runs an object from a state, for at most `budget` steps.
+ *
+ * The number of the result is
+ *    0  the budget is used up and the program has not ended;
+ *    1 to 4  it faulted: 1 zero divisor, 2 negative exponent, 3 shift count outside 0 to 31, 4 SEND with the output full;
+ *   20  it stopped.
+ * The value is then the steps of this call: one for each order carried out, STOP too; an order that faults is not counted.
+ * `state` is now the last state, and the numbers sent stand in `output`: number c, from 0, in bytes 4c to 4c+3, highest
+ * first. All other bytes of the output stay. The output has room for output_len / 4 numbers, rounded down.
+ *
+ * A fault is met even with no budget left. A state that has ended takes no step and reports its ending again. To go on,
+ * call again with the same object, state and output: a steps and then b steps do what a + b steps do.
+ *
+ * Otherwise the call is refused: no byte of state or output has changed, and the value is the place.
+ *   21  the header is not of the form or over a limit: place 0
+ *   22  there are not exactly N good lines: the first bad or missing line, or N where text follows the last
+ *   23  a word is not in 2 to V+T+1: the order
+ *   24  an address is N or more: the order (the first order with 23 or 24 is the one reported)
+ *   25  the last order is not STOP, or a STOP stands earlier: the first early STOP, else N-1
+ *   26  the state does not fit the object: its length is not SKIMP_STATE_BYTES(V, T), its next order is N or more, it has
+ *       sent more than the output has room for, or its ending is none of 0, 1 to 4 and 20: place 0 */
+uint64_t skimp_run(const uint8_t *object, size_t object_len, uint8_t *state, size_t state_len, uint8_t *output,
+                   size_t output_len, uint32_t budget);
+
+#ifdef __cplusplus
+}
+#endif
+
+#endif

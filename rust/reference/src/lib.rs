@@ -1,0 +1,40 @@
+//! The rules of document 01 in plain Rust. The tests compare the archive with it, and the
+//! benchmark measures the archive against it, so it is written for speed. It shares no code with
+//! the archive.
+
+#![forbid(unsafe_code)]
+
+mod machine;
+mod object;
+
+use machine::State;
+use object::Object;
+
+/// What a call replies: document 01's number with the steps, or with the place of a refusal.
+#[derive(Clone, Copy, Debug, PartialEq, Eq)]
+pub struct Reply {
+    pub number: u32,
+    pub value: u32,
+}
+
+const BAD_STATE: u32 = 26;
+
+/// Runs an object from a state for at most `budget` steps, as `skimp_run` of `skimp.h` does.
+pub fn run(object: &[u8], state: &mut [u8], output: &mut [u8], budget: u32) -> Reply {
+    let object = match Object::read(object) {
+        Ok(object) => object,
+        Err(refusal) => return refusal,
+    };
+    let Some(mut last) = State::read(state, &object, output.len() / 4) else {
+        return Reply {
+            number: BAD_STATE,
+            value: 0,
+        };
+    };
+    let steps = last.run(&object.orders, output, budget);
+    last.write(state);
+    Reply {
+        number: last.ending,
+        value: steps,
+    }
+}

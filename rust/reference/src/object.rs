@@ -1,0 +1,215 @@
+//! Reading object text.
+
+use crate::Reply;
+
+const MOST_VARIABLES: u32 = 64;
+const MOST_TEMPORARIES: u32 = 32;
+pub const MOST_ORDERS: usize = 1024;
+/// Words 0 and 1 of the frame are the link words, which no order may name.
+const LINK_WORDS: u32 = 2;
+const MOST_NUMBER: u32 = 2_147_483_647;
+
+const BAD_HEADER: u32 = 21;
+const BAD_LINE: u32 = 22;
+const BAD_WORD: u32 = 23;
+const BAD_ADDRESS: u32 = 24;
+const BAD_STOP: u32 = 25;
+
+#[derive(Clone, Copy, PartialEq, Eq)]
+#[rustfmt::skip]
+pub enum Name {
+    Load, Add, Sub, Mlt, Div, Exp, Shl, Shr, And, Or, Xor, Cmp,
+    Str,
+    Jmp, Be, Bne, Blt, Ble, Bgt, Bge,
+    Neg, Not, Send, Stop,
+}
+
+/// What an order's number is.
+#[derive(Clone, Copy, PartialEq, Eq)]
+pub enum Kind {
+    Word,
+    Number,
+    Address,
+    Nothing,
+}
+
+#[derive(Clone, Copy)]
+pub struct Order {
+    pub name: Name,
+    pub kind: Kind,
+    pub number: u32,
+}
+
+const STOP: Order = Order {
+    name: Name::Stop,
+    kind: Kind::Nothing,
+    number: 0,
+};
+
+/// A good object.
+pub struct Object {
+    /// How many words the frame has, link words included.
+    pub words: usize,
+    pub length: usize,
+    /// The orders, then STOP up to the array's end. Its length lets an index be masked, which
+    /// costs less than a test of bounds.
+    pub orders: [Order; MOST_ORDERS],
+}
+
+impl Object {
+    /// The object that a text states, or the refusal that document 01 fixes.
+    pub fn read(text: &[u8]) -> Result<Object, Reply> {
+        let (header, mut rest) = line(text).ok_or(refusal(BAD_HEADER, 0))?;
+        let (words, length) = frame_and_length(header).ok_or(refusal(BAD_HEADER, 0))?;
+        let mut orders = [STOP; MOST_ORDERS];
+        for (place, slot) in orders[..length].iter_mut().enumerate() {
+            let (record, after) = line(rest).ok_or(refusal(BAD_LINE, place))?;
+            *slot = order(record).ok_or(refusal(BAD_LINE, place))?;
+            rest = after;
+        }
+        if !rest.is_empty() {
+            return Err(refusal(BAD_LINE, length));
+        }
+        check_operands(&orders[..length], words)?;
+        check_stop(&orders[..length])?;
+        Ok(Object {
+            words: words as usize,
+            length,
+            orders,
+        })
+    }
+}
+
+fn refusal(number: u32, place: usize) -> Reply {
+    Reply {
+        number,
+        value: place as u32,
+    }
+}
+
+/// The text before the first newline, and the text after it.
+fn line(text: &[u8]) -> Option<(&[u8], &[u8])> {
+    let end = text.iter().position(|&byte| byte == b'\n')?;
+    Some((&text[..end], &text[end + 1..]))
+}
+
+/// The fields of a line that has exactly `COUNT` of them.
+fn fields<const COUNT: usize>(line: &[u8]) -> Option<[&[u8]; COUNT]> {
+    let mut parts = line.split(|&byte| byte == b'\t');
+    let mut fields = [&line[..0]; COUNT];
+    for field in &mut fields {
+        *field = parts.next()?;
+    }
+    parts.next().is_none().then_some(fields)
+}
+
+/// A decimal number from 0 to `most` without a needless zero.
+fn number(field: &[u8], most: u32) -> Option<u32> {
+    let needless_zero = field.len() > 1 && field[0] == b'0';
+    if field.is_empty() || field.len() > 10 || needless_zero {
+        return None;
+    }
+    let mut value = 0_u64;
+    for &byte in field {
+        if !byte.is_ascii_digit() {
+            return None;
+        }
+        value = value * 10 + u64::from(byte - b'0');
+    }
+    u32::try_from(value).ok().filter(|&value| value <= most)
+}
+
+/// The words of the frame and the number of orders, of the header.
+fn frame_and_length(header: &[u8]) -> Option<(u32, usize)> {
+    let [mark, variables, temporaries, orders] = fields(header)?;
+    if mark != b"BOX" {
+        return None;
+    }
+    let variables = number(variables, MOST_VARIABLES)?;
+    let temporaries = number(temporaries, MOST_TEMPORARIES)?;
+    let length = number(orders, MOST_ORDERS as u32)?;
+    (length > 0).then_some((variables + temporaries + LINK_WORDS, length as usize))
+}
+
+/// The order of a good record.
+fn order(record: &[u8]) -> Option<Order> {
+    let [name, kind, operand] = fields(record)?;
+    let number = number(operand, MOST_NUMBER)?;
+    let (name, kind) = match kind {
+        b"D" if name == b"STR" => (Name::Str, Kind::Word),
+        b"D" => (with_value(name)?, Kind::Word),
+        b"K" => (with_value(name)?, Kind::Number),
+        b"A" => (with_address(name)?, Kind::Address),
+        b"-" if number == 0 => (with_nothing(name)?, Kind::Nothing),
+        _ => return None,
+    };
+    Some(Order { name, kind, number })
+}
+
+/// The orders that take a word or a number.
+fn with_value(name: &[u8]) -> Option<Name> {
+    Some(match name {
+        b"LOAD" => Name::Load,
+        b"ADD" => Name::Add,
+        b"SUB" => Name::Sub,
+        b"MLT" => Name::Mlt,
+        b"DIV" => Name::Div,
+        b"EXP" => Name::Exp,
+        b"SHL" => Name::Shl,
+        b"SHR" => Name::Shr,
+        b"AND" => Name::And,
+        b"OR" => Name::Or,
+        b"XOR" => Name::Xor,
+        b"CMP" => Name::Cmp,
+        _ => return None,
+    })
+}
+
+fn with_address(name: &[u8]) -> Option<Name> {
+    Some(match name {
+        b"JMP" => Name::Jmp,
+        b"BE" => Name::Be,
+        b"BNE" => Name::Bne,
+        b"BLT" => Name::Blt,
+        b"BLE" => Name::Ble,
+        b"BGT" => Name::Bgt,
+        b"BGE" => Name::Bge,
+        _ => return None,
+    })
+}
+
+fn with_nothing(name: &[u8]) -> Option<Name> {
+    Some(match name {
+        b"NEG" => Name::Neg,
+        b"NOT" => Name::Not,
+        b"SEND" => Name::Send,
+        b"STOP" => Name::Stop,
+        _ => return None,
+    })
+}
+
+/// The first order with a word or an address out of range is refused.
+fn check_operands(orders: &[Order], words: u32) -> Result<(), Reply> {
+    for (place, order) in orders.iter().enumerate() {
+        match order.kind {
+            Kind::Word if !(LINK_WORDS..words).contains(&order.number) => {
+                return Err(refusal(BAD_WORD, place));
+            }
+            Kind::Address if order.number as usize >= orders.len() => {
+                return Err(refusal(BAD_ADDRESS, place));
+            }
+            _ => {}
+        }
+    }
+    Ok(())
+}
+
+/// The first STOP must be the last order.
+fn check_stop(orders: &[Order]) -> Result<(), Reply> {
+    let last = orders.len() - 1;
+    match orders.iter().position(|order| order.name == Name::Stop) {
+        Some(place) if place == last => Ok(()),
+        Some(place) => Err(refusal(BAD_STOP, place)),
+        None => Err(refusal(BAD_STOP, last)),
+    }
+}

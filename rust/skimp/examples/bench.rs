@@ -1,0 +1,176 @@
+//! The archive's time for a step against that of the reference, which is plain Rust.
+//!
+//! Both run the same object from the start to its STOP. The rounds alternate, so that a change of
+//! the machine's speed meets both, and the least time of each counts.
+
+use std::time::{Duration, Instant};
+
+const ROUNDS: usize = 7;
+const LEAST_STEPS: u32 = 10_000_000;
+const STOPPED: u32 = 20;
+
+const STATE_HEADER: usize = 20;
+const LINK_WORDS: usize = 2;
+const VARIABLES: usize = 2;
+const TEMPORARIES: usize = 6;
+const FRAME: usize = LINK_WORDS + VARIABLES + TEMPORARIES;
+/// The words of the two variables and of the first temporary.
+const COUNTER: usize = LINK_WORDS;
+const TOTAL: usize = LINK_WORDS + 1;
+const TEMPORARY: usize = LINK_WORDS + VARIABLES;
+
+struct Program {
+    name: &'static str,
+    /// The text, with spaces for tabs.
+    orders: Vec<String>,
+    output: usize,
+}
+
+impl Program {
+    fn text(&self) -> Vec<u8> {
+        let header = format!("BOX {VARIABLES} {TEMPORARIES} {}", self.orders.len());
+        let lines = [header].into_iter().chain(self.orders.iter().cloned());
+        let text: String = lines.map(|line| line.replace(' ', "\t") + "\n").collect();
+        text.into_bytes()
+    }
+}
+
+/// The orders of `body`, `times` times over.
+fn repeat(mut body: Vec<String>, times: u32) -> Vec<String> {
+    body.push(format!("LOAD D {COUNTER}"));
+    body.push("ADD K 1".to_string());
+    body.push(format!("STR D {COUNTER}"));
+    body.push(format!("LOAD D {COUNTER}"));
+    body.push(format!("CMP K {times}"));
+    let end = body.len() + 2;
+    body.push(format!("BGE A {end}"));
+    body.push("JMP A 0".to_string());
+    body.push("STOP - 0".to_string());
+    body
+}
+
+/// The orders of a balanced expression `depth` levels deep, with `used` temporaries in use.
+fn expression(depth: usize, used: usize, orders: &mut Vec<String>) {
+    const LEAVES: [&str; 4] = ["MLT K 3", "SHR K 3", "DIV K 7", "EXP K 2"];
+    const NODES: [&str; 6] = ["ADD", "XOR", "SUB", "OR", "MLT", "AND"];
+    let turn = orders.len();
+    if depth == 0 {
+        let word = [COUNTER, TOTAL][turn % 2];
+        orders.push(format!("LOAD D {word}"));
+        orders.push(LEAVES[turn % LEAVES.len()].to_string());
+        return;
+    }
+    let (left, right) = (TEMPORARY + used, TEMPORARY + used + 1);
+    expression(depth - 1, used, orders);
+    orders.push(format!("STR D {left}"));
+    expression(depth - 1, used + 1, orders);
+    orders.push(format!("STR D {right}"));
+    orders.push(format!("LOAD D {left}"));
+    orders.push(format!("{} D {right}", NODES[turn % NODES.len()]));
+}
+
+fn programs() -> [Program; 3] {
+    let mut sum = Vec::new();
+    expression(TEMPORARIES - 1, 0, &mut sum);
+    sum.push(format!("STR D {TOTAL}"));
+    let mut sends = Vec::new();
+    for word in [COUNTER, TOTAL, COUNTER, TOTAL] {
+        sends.push(format!("LOAD D {word}"));
+        sends.push("SEND - 0".to_string());
+    }
+    [
+        Program {
+            name: "counting",
+            orders: repeat(Vec::new(), 2_000_000),
+            output: 0,
+        },
+        Program {
+            name: "expression",
+            orders: repeat(sum, 80_000),
+            output: 0,
+        },
+        Program {
+            name: "sending",
+            orders: repeat(sends, 1_000_000),
+            output: 4 * 4_000_000,
+        },
+    ]
+}
+
+/// What a run leaves, and how long it took.
+struct Run {
+    number: u32,
+    steps: u32,
+    state: Vec<u8>,
+    time: Duration,
+}
+
+/// Times one run from the start. Clearing the buffers has no part in the time.
+fn measure(
+    run: impl Fn(&[u8], &mut [u8], &mut [u8]) -> (u32, u32),
+    text: &[u8],
+    output: &mut [u8],
+) -> Run {
+    let mut state = vec![0; STATE_HEADER + 4 * FRAME];
+    output.fill(0);
+    let start = Instant::now();
+    let (number, steps) = run(text, &mut state, output);
+    let time = start.elapsed();
+    Run {
+        number,
+        steps,
+        state,
+        time,
+    }
+}
+
+fn proved(text: &[u8], state: &mut [u8], output: &mut [u8]) -> (u32, u32) {
+    let reply = skimp::run(text, state, output, u32::MAX);
+    (reply.number, reply.value)
+}
+
+fn reference(text: &[u8], state: &mut [u8], output: &mut [u8]) -> (u32, u32) {
+    let reply = skimp_reference::run(text, state, output, u32::MAX);
+    (reply.number, reply.value)
+}
+
+/// Measures a program in both and prints its line.
+fn report(program: &Program) {
+    let text = program.text();
+    let mut outputs = [vec![0; program.output], vec![0; program.output]];
+    let mut least = [Duration::MAX; 2];
+    let mut steps = 0;
+    // the first round warms up
+    for round in 0..=ROUNDS {
+        let ours = measure(proved, &text, &mut outputs[0]);
+        let other = measure(reference, &text, &mut outputs[1]);
+        let name = program.name;
+        assert_eq!(ours.number, STOPPED, "{name}: it did not stop");
+        assert_eq!(ours.number, other.number, "{name}: the numbers differ");
+        assert_eq!(ours.steps, other.steps, "{name}: the steps differ");
+        assert!(ours.state == other.state, "{name}: the states differ");
+        assert!(outputs[0] == outputs[1], "{name}: the outputs differ");
+        assert!(ours.steps >= LEAST_STEPS, "{name}: too few steps");
+        steps = ours.steps;
+        if round > 0 {
+            least[0] = least[0].min(ours.time);
+            least[1] = least[1].min(other.time);
+        }
+    }
+    let [ours, other] = least.map(|time| time.as_secs_f64() * 1e9 / f64::from(steps));
+    println!(
+        "{:<12}{steps:>12}{ours:>12.2}{other:>12.2}{:>12.2}",
+        program.name,
+        ours / other
+    );
+}
+
+fn main() {
+    println!(
+        "{:<12}{:>12}{:>12}{:>12}{:>12}",
+        "program", "steps", "proved ns", "Rust ns", "ratio"
+    );
+    for program in programs() {
+        report(&program);
+    }
+}

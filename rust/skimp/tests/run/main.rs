@@ -1,0 +1,14 @@
+//! The archive's run: against the reference, against itself in slices of the budget, and against
+//! values of document 01 worked out by hand.
+
+mod call;
+mod damage;
+mod damaged;
+mod orders;
+mod program;
+mod programs;
+mod random;
+mod refusals;
+mod splits;
+mod states;
+mod vectors;
