@@ -1,16 +1,15 @@
 -- What the effect of an order can be: the cases that every theorem on runs goes by.
-use Prim.Native.Nat.{ℕ, _+_, _*_, _/_, _<_, _≤_}
-use mathlib.Core.Path.{_≡_, refl, sym, _∙_}
+use Prim.Native.Nat.{ℕ, _*_, _/_, _<_, _≤_}
+use mathlib.Core.Path.{_≡_, refl}
 use mathlib.Core.Bool.{Bool, true, false}
 use mathlib.Core.List.{List}
 use native.Mathlib.Omega.{arith}
 use borrow.Author.Tests.{ltb-true}
-use lib.Dec.{ltb, eqb}
+use lib.Dec.{ltb}
 use lib.ListN.{length, getD, set, length-set}
 use lib.Seq.{sets, length-sets}
 use Rattle.base.specs.Choice.{pick}
-use Rattle.base.proofs.Cases.{by-test}
-use Rattle.word.specs.Word.{Outcome, value, fault, wrap, word, signed, related, relatedToZero, sum, difference, product, negation}
+use Rattle.word.specs.Word.{Outcome, value, fault, relatedToZero, sum, difference, product, negation}
 use Rattle.word.specs.Word.{andBits, orBits, xorBits, notBits, comparison, quotient, power, shiftLeft, shiftRight}
 use Rattle.word.specs.declared.Relation.{Relation}
 use Rattle.word.proofs.Closed.{sum-closed, difference-closed, product-closed, negation-closed, not-closed, and-closed, or-closed, xor-closed}
@@ -22,7 +21,7 @@ use Rattle.order.specs.declared.Order.the-variants.{Word, Number, Store, Neg, N
 use Rattle.order.specs.Order.{operand}
 use Rattle.order.specs.Object.{isStop}
 use Rattle.machine.specs.declared.Registers.{Registers}
-use Rattle.machine.specs.Machine.{Machine, machine, Effect, done, failed, advance, goTo, sentOne, endWith, operate, toAcc, wordBytes, send, effect}
+use Rattle.machine.specs.Machine.{machine, Effect, done, failed, advance, goTo, sentOne, endWith, operate, toAcc, wordBytes, send, effect}
 
 -- ---- the numbers of the faults
 

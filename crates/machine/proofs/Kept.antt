@@ -1,12 +1,12 @@
 -- What each order keeps, a run keeps.
 use Prim.Native.Nat.{ℕ}
-use mathlib.Core.Path.{_≡_, refl, sym}
+use mathlib.Core.Path.{_≡_, refl}
 use mathlib.Core.List.{List}
 use lib.ListN.{getD}
 use Rattle.order.specs.declared.Order.{Order}
 use Rattle.order.specs.declared.Order.the-variants.{Stop}
 use Rattle.machine.specs.declared.Registers.{Registers}
-use Rattle.machine.specs.Machine.{Machine, machine, Effect, done, failed, Run, ran, nextEffect, run}
+use Rattle.machine.specs.Machine.{Machine, machine, Effect, done, failed, ran, nextEffect, run}
 use Rattle.machine.specs.Internal.{stepped}
 use Rattle.machine.proofs.Effects.{Case, case}
 use Rattle.machine.proofs.Steps.{Runs, rests, meets, waits, takes, runs}

@@ -7,4 +7,5 @@ pub mod Looping
 pub mod Resume
 pub mod Alike
 pub mod Kept
+pub mod Invariants
 pub mod Frame

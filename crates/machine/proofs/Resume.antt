@@ -1,11 +1,11 @@
 -- "Running a then b more steps over one output equals running a+b, steps summed", and a run's steps are within its budget.
-use Prim.Native.Nat.{ℕ, suc, _+_, _≤_}
-use mathlib.Core.Path.{_≡_, refl, sym, ap, _∙_}
+use Prim.Native.Nat.{ℕ, _+_, _≤_}
+use mathlib.Core.Path.{_≡_, sym, ap, _∙_}
 use mathlib.Core.List.{List}
 use native.Mathlib.Omega.{arith}
 use native.Mathlib.Nat.{zero-add, suc-add}
 use Rattle.order.specs.declared.Order.{Order}
-use Rattle.machine.specs.Machine.{Machine, machine, Run, ran, endWith, oneMore, run}
+use Rattle.machine.specs.Machine.{Machine, machine, ran, endWith, oneMore, run}
 use Rattle.machine.proofs.Steps.{ended-stays, fault-is-met, one-order, Runs, rests, meets, waits, takes, runs}
 
 module _ (os : List Order) where

@@ -1,8 +1,7 @@
 -- Document 01's worked object ("One program whole"): its text is read as its orders, which send 3 in 18 steps.
 use Prim.Native.Nat.{ℕ}
-use Prim.Native.String.{String}
 use mathlib.Core.Path.{_≡_, refl}
-use mathlib.Core.List.{List, [], _∷_, _++_, map}
+use mathlib.Core.List.{List, [], _∷_}
 use lib.ListN.{replicate}
 use Rattle.base.specs.Choice.{pick}
 use Rattle.base.specs.Text.{bytes}
@@ -12,10 +11,10 @@ use Rattle.order.specs.declared.Operation.the-variants.{Load, Sub, Div, Cmp}
 use Rattle.order.specs.declared.Order.{Order}
 use Rattle.order.specs.declared.Order.the-variants.{Word, Number, Store, Jump, Branch, Send, Stop}
 use Rattle.order.specs.Order.{shapes}
-use Rattle.order.specs.Object.{Reading, object, reading, text, digitsOf, recordsText}
+use Rattle.order.specs.Object.{object, reading, text, digitsOf, recordsText}
 use Rattle.order.specs.Object.{onFront, fixed, digits, numeral, withinLimits, headerAt, recordAmong, recordAt, linesAt}
 use Rattle.order.specs.Object.{firstStop, firstOperand, stopLast, exactly}
-use Rattle.machine.specs.Machine.{Machine, machine, Run, ran, send, run}
+use Rattle.machine.specs.Machine.{machine, ran, send, run}
 
 abbrev worked : List ℕ
 worked = bytes

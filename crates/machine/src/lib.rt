@@ -145,7 +145,8 @@ fn on_number(f: Operation, x: u32, behind: usize, r: Registers) -> Registers
 fn on_word(f: Operation, words: &[u32], w: u32, behind: usize, r: Registers) -> Registers
     ensures { λ s. ⌜ s ≡ settled (operate f (r .acc) (getD (now (words .entry)) w 0)) behind r ⌝ }
 {
-    settle(result_of(f, r.acc, word_at(words, w as usize)), behind, r)
+    let held = word_at(words, w as usize);
+    settle(result_of(f, r.acc, held), behind, r)
 }
 
 fn store(words: &mut [u32], w: u32, a: u32)

@@ -1,5 +1,4 @@
 use borrow.Author.Needs.{needs}
-use Rattle.base.specs.Choice.{pick}
 use Rattle.base.proofs.Cases.{cases}
 use Rattle.machine.proofs.branch.Statement.{statement}
 use Rattle.machine.proofs.branch.Tie as tie

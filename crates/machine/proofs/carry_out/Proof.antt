@@ -1,5 +1,4 @@
 use borrow.Author.Needs.{needs}
-use mathlib.Core.Path.{_∙_, ap}
 use Rattle.order.specs.Order.{orderOf, shapes}
 use Rattle.machine.proofs.Orders.{no-order}
 use Rattle.machine.proofs.carry_out.Statement.{statement}

@@ -1,4 +1,3 @@
-use Rattle.base.specs.Choice.{pick}
 use Rattle.base.proofs.Cases.{cases}
 use Rattle.machine.proofs.full.Statement.{statement}
 use Rattle.machine.proofs.full.Tie as tie

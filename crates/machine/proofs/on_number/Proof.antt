@@ -1,5 +1,4 @@
 use borrow.Author.Needs.{needs}
-use mathlib.Core.Path.{_∙_}
 use Rattle.machine.proofs.on_number.Statement.{statement}
 use Rattle.machine.proofs.on_number.Tie as tie
 
