@@ -14,7 +14,7 @@ use Rattle.order.specs.Good.{Good}
 use Rattle.machine.specs.declared.Registers.{Registers}
 use Rattle.machine.specs.Machine.{Machine, machine, done, failed, ran, operate, toAcc, send, effect, run}
 use Rattle.machine.proofs.Effects.{Words}
-use Rattle.machine.proofs.Kept.{kept}
+use Rattle.machine.proofs.Kept.{Keeps, kept}
 use Rattle.machine.proofs.Invariants.{Ending, Bytes, Operands, Lengths, Links, Inside, WithinRoom, GoodEnding, AllWords, AllBytes}
 use Rattle.machine.proofs.Invariants.{keeps-lengths, keeps-room, keeps-ending, keeps-words, keeps-bytes, keeps-links, keeps-inside}
 
@@ -68,28 +68,29 @@ module _
     (os : List Order) (b : ℕ) (r : Registers) (ws out : List ℕ) (k : ℕ) (s : Registers) (vs left : List ℕ)
     (e : run os b (machine r ws out) ≡ ran k (machine s vs left))
   where
+    stays : (P : Machine → Type 0) → Keeps os P → P (machine r ws out) → P (machine s vs left)
+    stays P keeps p = kept os P keeps b (machine r ws out) k (machine s vs left) e p
+
     pub lengths-stay : (length vs ≡ length ws) × (length left ≡ length out)
-    lengths-stay = kept os (Lengths (length ws) (length out)) (keeps-lengths os (length ws) (length out)) b (machine r ws out) k (machine s vs left) e (refl, refl)
+    lengths-stay = stays (Lengths (length ws) (length out)) (keeps-lengths os (length ws) (length out)) (refl, refl)
 
     pub sent-within-room : r .sent ≤ length out / 4 → s .sent ≤ length left / 4
-    sent-within-room p = kept os WithinRoom (keeps-room os) b (machine r ws out) k (machine s vs left) e p
+    sent-within-room p = stays WithinRoom (keeps-room os) p
 
     pub ending-known : Ending (r .ending) → Ending (s .ending)
-    ending-known p = kept os GoodEnding (keeps-ending os) b (machine r ws out) k (machine s vs left) e p
+    ending-known p = stays GoodEnding (keeps-ending os) p
 
     pub words-stay : Operands os → r .acc < 4294967296 → Words ws → (s .acc < 4294967296) × Words vs
-    words-stay small a w = kept os AllWords (keeps-words os small) b (machine r ws out) k (machine s vs left) e (a, w)
+    words-stay small a w = stays AllWords (keeps-words os small) (a, w)
 
     pub bytes-stay : Operands os → r .acc < 4294967296 → Words ws → Bytes out → Bytes left
-    bytes-stay small a w p = kept os AllBytes (keeps-bytes os small) b (machine r ws out) k (machine s vs left) e ((a, w), p) .1
+    bytes-stay small a w p = stays AllBytes (keeps-bytes os small) ((a, w), p) .1
 
     -- a good object's run
     module _ (v t : ℕ) (good : Good v t os) where
       -- the link words never change
       pub link-words : (getD vs 0 0 ≡ getD ws 0 0) × (getD vs 1 0 ≡ getD ws 1 0)
-      link-words =
-          kept os (Links (getD ws 0 0) (getD ws 1 0)) (keeps-links v t os good (getD ws 0 0) (getD ws 1 0)) b (machine r ws out) k (machine s vs left) e
-          (refl, refl)
+      link-words = stays (Links (getD ws 0 0) (getD ws 1 0)) (keeps-links v t os good (getD ws 0 0) (getD ws 1 0)) (refl, refl)
 
       pub next-inside : r .next < length os → s .next < length os
-      next-inside p = kept os (Inside os) (keeps-inside v t os good) b (machine r ws out) k (machine s vs left) e p
+      next-inside p = stays (Inside os) (keeps-inside v t os good) p

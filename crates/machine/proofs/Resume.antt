@@ -9,7 +9,11 @@ use Rattle.machine.specs.Machine.{Machine, machine, ran, endWith, oneMor
 use Rattle.machine.proofs.Steps.{ended-stays, fault-is-met, one-order, Runs, rests, meets, waits, takes, runs}
 
 module _ (os : List Order) where
-  resumed : {a k : ℕ} {m m₁ : Machine} (b j : ℕ) (m₂ : Machine) → Runs os a m (ran k m₁) → run os b m₁ ≡ ran j m₂ → run os (a + b) m ≡ ran (k + j) m₂
+  resumed :
+      {a k : ℕ} {m m₁ : Machine} (b j : ℕ) (m₂ : Machine)
+      → Runs os a m (ran k m₁)
+      → run os b m₁ ≡ ran j m₂
+      → run os (a + b) m ≡ ran (k + j) m₂
   resumed b j m₂ (rests a m ended) e =
       rw (zero-add j) (ended-stays os m (a + b) ended ∙ sym (ended-stays os m b ended) ∙ e)
   resumed b j m₂ (meets a r ws out n going i low high) e =
@@ -21,7 +25,11 @@ module _ (os : List Order) where
   resumed b j m₂ (takes a k m after m₁ going i p) e =
       rw (suc-add a b, suc-add k j) (one-order os m (a + b) after going i ∙ ap oneMore (resumed b j m₂ p e))
 
-  pub resume : (a b : ℕ) (m : Machine) (k : ℕ) (m₁ : Machine) (j : ℕ) (m₂ : Machine) → run os a m ≡ ran k m₁ → run os b m₁ ≡ ran j m₂ → run os (a + b) m ≡ ran (k + j) m₂
+  pub resume :
+      (a b : ℕ) (m : Machine) (k : ℕ) (m₁ : Machine) (j : ℕ) (m₂ : Machine)
+      → run os a m ≡ ran k m₁
+      → run os b m₁ ≡ ran j m₂
+      → run os (a + b) m ≡ ran (k + j) m₂
   resume a b m k m₁ j m₂ e i = resumed b j m₂ (rw e at (runs os a m)) i
 
   few : {b k : ℕ} {m left : Machine} → Runs os b m (ran k left) → k ≤ b

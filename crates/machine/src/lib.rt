@@ -4,8 +4,8 @@ use order::Operation;
 use word::Answer;
 use word::Relation;
 ghost use Prim.Native.Nat.{_/_, _≤_};
-ghost use lib.Dec.{ltb};
 ghost use mathlib.Core.Path.{_≡_};
+ghost use lib.Dec.{ltb};
 ghost use lib.ListN.{length, getD, set};
 ghost use Rattle.base.specs.Choice.{pick};
 ghost use Rattle.word.specs.Word.{relatedToZero};
@@ -189,7 +189,7 @@ fn send(output: &mut [u8], behind: usize, r: Registers) -> Registers
     end_with(OUTPUT_FULL, r)
 }
 
-// "a case per order"
+// "stepping decides over the order's number, a case per order"
 fn carry_out(
     number: u8,
     v: u32,
@@ -245,7 +245,8 @@ fn carry_out(
     }
 }
 
-// One order: "a faulting order .. changes nothing but the ending". Only STOP has no place behind it, and does not use it.
+// One order: "a faulting order .. changes nothing but the ending". The place behind may wrap: at the last place that there
+// can be stands no order but STOP, which does not use it.
 fn step(
     numbers: &[u8],
     operands: &[u32],
