@@ -73,9 +73,17 @@ module _ {A : Type 0} where
       ∙ ap (λ r. vs ++ r) (drop-of-length-le l {i = 0 + length vs} (omega arith))
       ∙ append-nil vs
 
+  -- four stores one behind the other are one run of stores
+  pub four-stores : (l : List A) (i : ℕ) (a b c d : A) → set (set (set (set l i a) (i + 1) b) (i + 2) c) (i + 3) d ≡ sets l i (a ∷ b ∷ c ∷ d ∷ [])
+  four-stores l i a b c d =
+      let one : i + 1 ≡ suc i = omega arith in
+      let two : i + 2 ≡ suc (suc i) = omega arith in
+      let three : i + 3 ≡ suc (suc (suc i)) = omega arith in
+      rw (one, two, three)
+
   -- ---- a list with its default behind it
 
-  getD-repeated : (n i : ℕ) (d : A) → getD (replicate n d) i d ≡ d
+  pub getD-repeated : (n i : ℕ) (d : A) → getD (replicate n d) i d ≡ d
   getD-repeated zero i d = refl
   getD-repeated (suc n) zero d = refl
   getD-repeated (suc n) (suc i) d = getD-repeated n i d

@@ -1,6 +1,5 @@
 pub mod Worked
 pub mod Orders
-pub mod Bytes
 pub mod Effects
 pub mod Steps
 pub mod Looping

@@ -1,5 +1,5 @@
--- The order at a place of the two arrays, and what a number that is none of a match's keys says of it.
-use Prim.Native.Nat.{ℕ, zero, suc, _+_, _/_, _%_, _<_, _≤_}
+-- What the next order of the two arrays does: the fault that it meets, and the machine after it.
+use Prim.Native.Nat.{ℕ, zero, suc, _+_, _/_, _%_, _<_}
 use Prim.{Unit}
 use mathlib.Core.Path.{_≡_, refl, sym, ap, _∙_}
 use mathlib.Core.Bool.{Bool, true, false}
@@ -15,33 +15,10 @@ use Rattle.order.specs.declared.Operation.the-variants.{Load, Add, Sub, Mlt, Di
 use Rattle.order.specs.declared.Order.{Order}
 use Rattle.order.specs.declared.Order.the-variants.{Word, Number, Store, Neg, Not, Jump, Branch, Send, Stop}
 use Rattle.order.specs.Order.{shapes, orderOf, ordersOf}
+use Rattle.order.proofs.Numbers.{ordersOf-at}
 use Rattle.machine.specs.declared.Registers.{Registers}
 use Rattle.machine.specs.Machine.{Machine, machine, done, failed, endWith, operate, toAcc, send, effect, nextEffect}
 use Rattle.machine.specs.Internal.{stepped, faultOf, faultIn, settled, sentTo, carried}
-
--- the order at a place; outside the arrays it is STOP
-pub order-at : (ks vs : List ℕ) (i : ℕ) → getD (ordersOf ks vs) i Stop ≡ orderOf (getD ks i 0) (getD vs i 0)
-unfolding ordersOf orderOf shapes
-order-at [] vs i = refl
-order-at (k ∷ ks) [] zero = refl
-order-at (k ∷ ks) [] (suc i) = order-at ks [] i
-order-at (k ∷ ks) (v ∷ vs) zero = refl
-order-at (k ∷ ks) (v ∷ vs) (suc i) = order-at ks vs i
-
--- ---- a number that no order has
-
--- k is none of the numbers below n
-abbrev pub Apart : ℕ → ℕ → Type 0
-Apart k zero = Unit
-Apart k (suc n) = Apart k n × (k ≡ n → ⊥)
-
-beyond : (k n : ℕ) → Apart k n → n ≤ k
-beyond k zero a = omega arith
-beyond k (suc n) a = let low : n ≤ k = beyond k n (a .0) in let other = a .1 in omega (arith, other)
-
-pub no-order : (k v : ℕ) → Apart k 36 → orderOf k v ≡ Stop
-unfolding orderOf shapes
-no-order k v a = ap (λ (shape : ℕ → Order). shape v) (List·getD-eq-default shapes (λ v. Stop) (beyond k 36 a))
 
 -- ---- a number of an order that cannot fault
 
@@ -138,7 +115,7 @@ quiet k v m q = cannot-fault (orderOf k v) m (sym (List·getD-map (λ shape. may
 
 module _ (ks vs : List ℕ) (r : Registers) (ws out : List ℕ) (k v n : ℕ) (kh : k ≡ getD ks (r .next) 0) (vh : v ≡ getD vs (r .next) 0) where
   pub fault-met : n ≡ faultOf (effect (orderOf k v) (machine r ws out)) → n ≡ faultOf (nextEffect (ordersOf ks vs) (machine r ws out))
-  fault-met e = rw (order-at ks vs (r .next), ← kh, ← vh) e
+  fault-met e = rw (ordersOf-at ks vs (r .next), ← kh, ← vh) e
 
   pub none-met : Quiet k → n ≡ 0 → n ≡ faultOf (nextEffect (ordersOf ks vs) (machine r ws out))
   none-met q e = fault-met (e ∙ sym (quiet k v (machine r ws out) q))
@@ -195,7 +172,7 @@ step-carried ks vs r ws out k v b kh vh bh few =
     (length ks)
     (λ l.
     let behind : b ≡ r .next + 1 = omega arith in
-    rw (order-at ks vs (r .next), ← kh, ← vh, behind) (carried-effect (orderOf k v) r ws out))
+    rw (ordersOf-at ks vs (r .next), ← kh, ← vh, behind) (carried-effect (orderOf k v) r ws out))
     (λ g.
     let none : k ≡ 0 = kh ∙ List·getD-eq-default ks 0 g in
-    rw (order-at ks vs (r .next), ← kh, ← vh, none))
+    rw (ordersOf-at ks vs (r .next), ← kh, ← vh, none))

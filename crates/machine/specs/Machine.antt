@@ -1,7 +1,6 @@
 -- The effect of orders and a run of them with a budget, document 01 ("Orders", "A run reports ..").
 -- Comments in quotes are document 01's words.
 use Prim.Native.Nat.{ℕ, zero, suc, _+_, _*_, _/_, _%_}
-use mathlib.Core.Bool.{Bool}
 use mathlib.Core.List.{List, [], _∷_}
 use lib.Dec.{ltb, eqb}
 use lib.ListN.{length, getD, set}

@@ -1,15 +1,14 @@
 -- The bytes of numbers, and the loops over the words of a state.
-use Prim.Native.Nat.{ℕ, zero, suc, _+_, _-_, _*_, _/_, _%_, _<_, _≤_}
+use Prim.Native.Nat.{ℕ, zero, suc, _+_, _*_, _/_, _%_, _<_, _≤_}
 use mathlib.Core.Path.{_≡_, refl, sym, ap, _∙_}
 use mathlib.Core.List.{List, [], _∷_, _++_, append-nil, append-assoc}
 use native.Mathlib.Omega.{arith}
 use native.Mathlib.Nat.{add-zero}
-use native.Mathlib.Numerals.{add-one}
 use lib.ListN.{length, getD, take, drop, set, length-append, drop-of-length-le}
 use lib.Seq.{sets, set-at, append-snoc, length-take-le, length-sets, take-all}
-use Rattle.base.proofs.Lists.{drop-more, take-more, sets-append}
+use Rattle.base.proofs.Lists.{drop-more, take-more, sets-append, four-stores}
 use Rattle.machine.specs.declared.Registers.{Registers}
-use Rattle.skimp.specs.State.{numberAt, numberBytes, registersOf, registerBytes, wordsAt, wordsBytes}
+use Rattle.skimp.specs.State.{numberAt, numberBytes, registerBytes, wordsAt, wordsBytes}
 
 -- ---- reading
 
@@ -46,10 +45,7 @@ unfolding numberBytes
 put-four s i w =
     let first : w / 256 / 256 / 256 % 256 ≡ w / 16777216 % 256 = omega arith in
     let second : w / 256 / 256 % 256 ≡ w / 65536 % 256 = omega arith in
-    let third : suc (suc (suc i)) ≡ i + 3 = omega arith in
-    let other : suc (suc i) ≡ i + 2 = omega arith in
-    let next : suc i ≡ i + 1 = omega arith in
-    rw (first, second, third, other, next) refl
+    rw (first, second) (four-stores s i (w / 16777216 % 256) (w / 65536 % 256) (w / 256 % 256) (w % 256))
 
 -- four bytes hold a number modulo 2 to the 32
 pub wrapped : (n : ℕ) → numberBytes 4 (n % 4294967296) ≡ numberBytes 4 n

@@ -1,12 +1,11 @@
 -- A call of run: what the arrays and the bytes on the way come to.
-use Prim.Native.Nat.{ℕ, zero, suc, _+_, _*_, _≤_}
+use Prim.Native.Nat.{ℕ, _+_, _*_, _≤_}
 use mathlib.Core.Path.{_≡_, refl, sym, ap, _∙_}
 use mathlib.Core.Bool.{Bool, true, false}
 use mathlib.Core.List.{List, _++_, map}
 use native.Mathlib.Omega.{arith}
 use borrow.Author.Tests.{eqb-true}
-use lib.Dec.{eqb}
-use lib.ListN.{length, getD, take, replicate, length-append, length-map, List·getD-eq-default}
+use lib.ListN.{length, getD, take, length-append, length-map, List·getD-eq-default}
 use lib.Seq.{sets, length-take-le}
 use Rattle.base.specs.Choice.{pick}
 use Rattle.base.proofs.Cases.{by-less, pick-yes}
@@ -15,7 +14,7 @@ use Rattle.order.specs.declared.Order.{Order}
 use Rattle.order.specs.declared.Order.the-variants.{Stop}
 use Rattle.order.specs.Order.{number, operand, orderOf, ordersOf}
 use Rattle.order.specs.Object.{Reading, object, refused, reading, linesOf}
-use Rattle.order.specs.Answers.{Verdict, good, refusal, verdictOf}
+use Rattle.order.specs.Answers.{good, refusal, verdictOf}
 use Rattle.order.specs.Good.{Good}
 use Rattle.order.proofs.Numbers.{orders-again, ordersOf-at}
 use Rattle.order.proofs.RoundTrip.{read-good, lines-read}
@@ -180,8 +179,3 @@ module _ (l : List ℕ) where
     good-call numbers operands state output budget clear clear-too a b =
         rw (known .read, lines-read l v t (known .orders) (known .read), ← known .counted)
         (held-call numbers operands clear clear-too (known .orders) (omega (arith, a, limits .few-orders)) (omega (arith, b, limits .few-orders)) (v + t + 2) (length (known .orders)) state output budget)
-
-pub all-clear : (n i : ℕ) → _≡_ {A = ℕ} (getD (replicate n 0) i 0) 0
-all-clear zero i = refl
-all-clear (suc n) zero = refl
-all-clear (suc n) (suc i) = all-clear n i

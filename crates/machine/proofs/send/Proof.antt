@@ -3,7 +3,7 @@ use native.Mathlib.Omega.{arith}
 use lib.ListN.{length-set}
 use Rattle.machine.specs.Internal.{sentTo}
 use Rattle.base.proofs.Cases.{cases}
-use Rattle.machine.proofs.Bytes.{four-stores}
+use Rattle.base.proofs.Lists.{four-stores}
 use Rattle.machine.proofs.send.Statement.{statement}
 use Rattle.machine.proofs.send.Tie as tie
 

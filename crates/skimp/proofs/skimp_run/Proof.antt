@@ -1,8 +1,10 @@
-use mathlib.Core.Path.{refl, sym, ap, _∙_}
+use Prim.Native.Nat.{ℕ}
+use mathlib.Core.Path.{_≡_, refl, sym, ap, _∙_}
 use native.Mathlib.Omega.{arith}
-use lib.ListN.{replicate}
+use lib.ListN.{getD, replicate}
+use Rattle.base.proofs.Lists.{getD-repeated}
 use Rattle.order.specs.Answers.{verdict}
-use Rattle.skimp.proofs.Calls.{good-object, few-words, good-call, refused-call, all-clear}
+use Rattle.skimp.proofs.Calls.{good-object, few-words, good-call, refused-call}
 use borrow.Author.Needs.{needs}
 use Rattle.skimp.proofs.skimp_run.Statement.{statement}
 use Rattle.skimp.proofs.skimp_run.Tie as tie
@@ -20,12 +22,15 @@ add-words-2 c =
 run-orders-requires : tie.Need-run-orders-requires
 run-orders-requires c κs = few-words _ _ _ _ (good-object _ _ _ _ (sym (ap verdict (c .before .before .before .before .before .v .given .1)) ∙ c .before .before .before .before .before .before .before .before .before .read .ensures .0))
 
+clear : (i : ℕ) → _≡_ {A = ℕ} (getD (replicate 1024 0) i 0) 0
+clear i = getD-repeated 1024 i 0
+
 returns : tie.Need-returns
 returns c =
     let g = c .before .before .before .before .before .before .before .before .before .before .before .before .before .before in
     c .before .before .before .before .run-orders .ensures
     ∙ rw (g .read .ensures .1 .0, g .read .ensures .1 .1)
-    (good-call _ _ _ _ (good-object _ _ _ _ (sym (ap verdict (c .before .before .before .before .before .before .before .before .before .before .v .given .1)) ∙ g .read .ensures .0)) (replicate 1024 0) (replicate 1024 0) _ _ _ (all-clear 1024) (all-clear 1024) refl refl)
+    (good-call _ _ _ _ (good-object _ _ _ _ (sym (ap verdict (c .before .before .before .before .before .before .before .before .before .before .v .given .1)) ∙ g .read .ensures .0)) (replicate 1024 0) (replicate 1024 0) _ _ _ clear clear refl refl)
 
 returns-2 : tie.Need-returns-2
 returns-2 c = rw (c .reply .ensures) (refused-call _ 21 0 _ _ _ (sym (ap verdict (c .before .enum-told .given .1)) ∙ c .before .before .before .before .before .read .ensures .0))
