@@ -1,5 +1,5 @@
 -- What the reader makes of a scan is what the checks 22 to 25 say of the lines.
-use Prim.Native.Nat.{ℕ, _+_, _-_, _<_, _≤_, min}
+use Prim.Native.Nat.{ℕ, _+_, _-_, _≤_, min}
 use mathlib.Core.Path.{_≡_, refl, sym, ap, _∙_}
 use mathlib.Core.Bool.{Bool, true, false}
 use mathlib.Core.List.{List, []}
@@ -15,7 +15,7 @@ use Rattle.order.specs.declared.object.Trouble.{Trouble}
 use Rattle.order.specs.declared.object.Trouble.the-variants.{Free, Word as BadWord, Address as BadAddress}
 use Rattle.order.specs.Object.{found, missing, onFront, Header, headerAt, Lines, linesAt, Reading, object, refused}
 use Rattle.order.specs.Object.{firstOperand, firstStop, stopLast, exactly, reading, linesOf}
-use Rattle.order.specs.Answers.{Verdict, good, refusal, verdictOf}
+use Rattle.order.specs.Answers.{good, refusal, verdictOf}
 use Rattle.order.specs.Internal.{troubled, ScanOf, stopVerdict, troubleVerdict, scanVerdict}
 
 verdict-chosen : (b : Bool) (x y : Reading) → verdictOf (pick b x y) ≡ pick b (verdictOf x) (verdictOf y)

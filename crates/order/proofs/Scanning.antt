@@ -1,5 +1,5 @@
 -- The records of an object, one after the other: what is known after each.
-use Prim.Native.Nat.{ℕ, zero, suc, _+_, _-_, _<_, _≤_}
+use Prim.Native.Nat.{ℕ, suc, _+_, _-_, _<_, _≤_}
 use mathlib.Core.Path.{_≡_, refl, sym, ap, _∙_}
 use mathlib.Core.Bool.{Bool, true, false}
 use mathlib.Core.List.{List, [], _∷_, _++_, map, append-nil}
@@ -19,7 +19,7 @@ use Rattle.order.specs.declared.object.Scan.{Scan}
 use Rattle.order.specs.declared.object.Trouble.{Trouble}
 use Rattle.order.specs.declared.object.Trouble.the-variants.{Free, Word as BadWord, Address as BadAddress}
 use Rattle.order.specs.Order.{number, operand}
-use Rattle.order.specs.Object.{withinLimits, Front, found, missing, onFront, recordAt, Lines, linesAt, Reading, refused}
+use Rattle.order.specs.Object.{withinLimits, found, missing, onFront, recordAt, Lines, linesAt, Reading, refused}
 use Rattle.order.specs.Object.{operandRefusal, isStop, firstOperand, firstStop}
 use Rattle.order.specs.Internal.{wordTrouble, addressTrouble, troubleOf, firstTrouble, troubled, nextStop, notedScan, ScanOf}
 

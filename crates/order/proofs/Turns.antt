@@ -11,7 +11,7 @@ use Rattle.base.proofs.Cases.{by-less}
 use Rattle.base.proofs.Lists.{drop-more}
 use Rattle.order.specs.declared.Order.the-variants.{Stop}
 use Rattle.order.specs.Order.{shapes, orderOf}
-use Rattle.order.specs.Object.{Front, found, missing, onFront, fixed, digits, numeral, recordAmong}
+use Rattle.order.specs.Object.{found, missing, onFront, fixed, digits, numeral, recordAmong}
 use Rattle.order.specs.Internal.{headingAt, numberAfter}
 
 module _ (string s : List ℕ) (k i : ℕ) where

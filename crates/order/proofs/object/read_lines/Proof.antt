@@ -1,6 +1,6 @@
 use Prim.Native.Nat.{_-_}
 use borrow.Author.Needs.{needs}
-use mathlib.Core.Path.{_≡_, sym, ap, _∙_}
+use mathlib.Core.Path.{sym, ap, _∙_}
 use native.Mathlib.Omega.{arith}
 use Rattle.order.specs.Internal.{orderFound}
 use Rattle.order.proofs.Scanning.{Filling, filling-start, filling-turn, filling-end, filling-over, filling-bad, numbers-length, operands-length}
