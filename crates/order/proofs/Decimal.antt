@@ -5,6 +5,7 @@ use mathlib.Core.List.{List, [], _∷_, _++_, append-assoc}
 use native.Mathlib.Omega.{arith}
 use borrow.Author.Tests.{lt-ltb, le-ltb, eq-eqb, ne-eqb, ltb-false, eqb-true, eqb-false}
 use lib.Dec.{ltb, eqb}
+use lib.ListN.{length, length-append}
 use Rattle.base.specs.Choice.{pick}
 use Rattle.base.proofs.Cases.{by-less, by-test}
 use Rattle.order.specs.Object.{found, digitsOf, decimal, digits, numeral}
@@ -13,7 +14,7 @@ use Rattle.order.proofs.Fronts.{never, not-refused}
 -- ---- the digits of a number
 
 module _ (k n : ℕ) where
-  one-digit : n < 10 → digitsOf (suc k) n ≡ (n + 48) ∷ []
+  pub one-digit : n < 10 → digitsOf (suc k) n ≡ (n + 48) ∷ []
   unfolding digitsOf pick
   one-digit l = rw (lt-ltb n 10 l)
 
@@ -30,6 +31,17 @@ enough (suc k) n small =
     (λ g. more-digits (suc k) n g
     ∙ ap (λ ds. ds ++ ((n % 10 + 48) ∷ [])) (enough k (n / 10) (omega arith))
     ∙ sym (more-digits (suc (suc k)) n g))
+
+-- the digits of a number and of its tenth
+pub last-digit : (n : ℕ) → 10 ≤ n → n < 4294967296 → decimal n ≡ decimal (n / 10) ++ ((n % 10 + 48) ∷ [])
+last-digit n g small = more-digits 9 n g ∙ ap (λ ds. ds ++ ((n % 10 + 48) ∷ [])) (enough 8 (n / 10) (omega arith))
+
+pub few-digits : (k n : ℕ) → length (digitsOf k n) ≤ k
+few-digits zero n = unfold digitsOf in omega arith
+few-digits (suc k) n =
+    by-less n 10
+    (λ l. rw (one-digit k n l) (omega arith))
+    (λ g. rw (more-digits k n g, length-append (digitsOf k (n / 10)) ((n % 10 + 48) ∷ [])) (omega (arith, few-digits k (n / 10))))
 
 -- a number with one digit more, b, before the text l
 decimal-digit : (v b : ℕ) (l : List ℕ) → 0 < v → 48 ≤ b → b ≤ 57 → v * 10 + (b - 48) ≤ 2147483647

@@ -12,3 +12,5 @@ pub mod ObjectChecks
 pub mod Accepted
 pub mod RoundTrip
 pub mod Refusals
+pub mod Writing
+pub mod Arrays

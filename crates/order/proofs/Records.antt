@@ -49,7 +49,7 @@ unfolding shapes bytes recordAt recordAmong fixed pick onFront orderAt
 headings-told l = refl
 
 -- both at each number of the table
-heading-at : (k v : ℕ) → heading (orderOf k v) ≡ heading (orderOf k 0)
+pub heading-at : (k v : ℕ) → heading (orderOf k v) ≡ heading (orderOf k 0)
 unfolding orderOf
 heading-at k v = map-at (λ s. heading (s v)) (λ s. heading (s 0)) shapes (λ v. Stop) (same-headings v) refl k
 

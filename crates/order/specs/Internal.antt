@@ -1,9 +1,9 @@
 -- What the answers of the private functions stand for, and what their loops do. A reader of the promises needs none of it.
 use Prim.Native.Nat.{ℕ, _+_, _-_, _<_, _≤_}
 use mathlib.Core.Path.{_≡_}
-use mathlib.Core.List.{List, []}
+use mathlib.Core.List.{List, [], _∷_}
 use lib.Dec.{ltb, eqb}
-use lib.ListN.{length, getD, take, drop}
+use lib.ListN.{length, getD, take, drop, set}
 use Rattle.base.specs.Choice.{pick}
 use Rattle.order.specs.declared.Order.{Order}
 use Rattle.order.specs.declared.Order.the-variants.{Word, Number as OnNumber, Store, Neg, Not, Jump, Branch, Send, Stop}
@@ -120,3 +120,18 @@ scanVerdict scan len v t n =
     (ltb (scan .count) n)
     (refusal 22 (scan .count))
     (pick (ltb (scan .at) len) (refusal 22 n) (troubleVerdict (scan .trouble) (stopVerdict (scan .stop) v t n)))
+
+-- ---- writing
+
+-- a place in a buffer, and the buffer
+pub data Placed : Type 0 where
+  placed : ℕ → List ℕ → Placed
+
+-- a byte put at the place, and the place behind it; nothing where the buffer has ended
+abbrev pub putByte : ℕ → Placed → Placed
+putByte b (placed i l) = pick (ltb i (length l)) (placed (i + 1) (set l i b)) (placed i l)
+
+-- bytes, one after the other
+unfoldable pub putAll : List ℕ → Placed → Placed
+putAll [] p = p
+putAll (b ∷ bs) p = putAll bs (putByte b p)

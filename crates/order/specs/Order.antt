@@ -1,6 +1,6 @@
 -- Orders, document 01: what the records of an object hold. "Order" is document 01's word for an instruction of the box.
 -- Comments in quotes are document 01's words.
-use Prim.Native.Nat.{ℕ, _+_}
+use Prim.Native.Nat.{ℕ, zero, suc, _+_}
 use Prim.Native.String.{String}
 use mathlib.Core.List.{List, [], _∷_, _++_, map}
 use lib.ListN.{getD}
@@ -135,3 +135,8 @@ unfoldable pub ordersOf : List ℕ → List ℕ → List Order
 ordersOf [] vs = []
 ordersOf (k ∷ ks) [] = orderOf k 0 ∷ ordersOf ks []
 ordersOf (k ∷ ks) (v ∷ vs) = orderOf k v ∷ ordersOf ks vs
+
+-- the n orders from place k on that two arrays hold; STOP where an array has ended
+unfoldable pub ordersFrom : ℕ → ℕ → List ℕ → List ℕ → List Order
+ordersFrom k zero ks vs = []
+ordersFrom k (suc n) ks vs = orderOf (getD ks k 0) (getD vs k 0) ∷ ordersFrom (suc k) n ks vs

@@ -3,6 +3,7 @@ pub mod number;
 pub mod object;
 mod record;
 mod text;
+pub mod write;
 
 use word::Relation;
 

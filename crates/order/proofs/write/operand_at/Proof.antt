@@ -1,0 +1,11 @@
+use borrow.Author.Needs.{needs}
+use mathlib.Core.Path.{sym}
+use lib.ListN.{List·getD-eq-default}
+use Rattle.order.proofs.write.operand_at.Statement.{statement}
+use Rattle.order.proofs.write.operand_at.Tie as tie
+
+returns-2 : tie.Need-returns-2
+returns-2 c = sym (List·getD-eq-default (c .before .args .operands .now) 0 (c .if1 .left))
+
+pub operand-at-spec : {M : Type 1} → statement M
+operand-at-spec = tie.close (tie.spec (λ c. search needs) (λ c. search needs) (λ c. search needs) returns-2)
