@@ -8,7 +8,7 @@ use lib.ListN.{length, getD, take, drop, set, length-append, drop-of-length-le}
 use lib.Seq.{sets, set-at, append-snoc, length-take-le, length-sets, take-all}
 use Rattle.base.proofs.Lists.{drop-more, take-more, sets-append, four-stores}
 use Rattle.machine.specs.declared.Registers.{Registers}
-use Rattle.skimp.specs.State.{numberAt, numberBytes, registerBytes, wordsAt, wordsBytes}
+use Rattle.skimp.specs.State.{numberAt, numberBytes, registerBytes, wordsAt, wordsBytes, stateBytes}
 
 -- ---- reading
 
@@ -139,3 +139,11 @@ store-over s s₀ words i e h = e ∙ ap (λ l. sets s₀ 20 (wordsBytes l)) (ta
 
 pub stored-length : (s s₀ words : List ℕ) (i : ℕ) → s ≡ sets s₀ 20 (wordsBytes (take i words)) → length s ≡ length s₀
 stored-length s s₀ words i e = ap length e ∙ length-sets s₀ 20 (wordsBytes (take i words))
+
+pub length-registers : (r : Registers) → length (registerBytes r) ≡ 20
+unfolding registerBytes numberBytes
+length-registers r = refl
+
+pub length-state : (r : Registers) (ws : List ℕ) → length (stateBytes r ws) ≡ 20 + 4 * length ws
+unfolding stateBytes
+length-state r ws = length-append (registerBytes r) (wordsBytes ws) ∙ omega (arith, length-registers r, length-words-bytes ws)

@@ -5,7 +5,7 @@ use mathlib.Core.Bool.{Bool, true, false}
 use mathlib.Core.List.{List, _++_, map}
 use native.Mathlib.Omega.{arith}
 use borrow.Author.Tests.{eqb-true}
-use lib.ListN.{length, getD, take, length-append, length-map, List·getD-eq-default}
+use lib.ListN.{length, getD, take, length-map, List·getD-eq-default}
 use lib.Seq.{sets, length-take-le}
 use Rattle.base.specs.Choice.{pick}
 use Rattle.base.proofs.Cases.{by-less, pick-yes}
@@ -22,15 +22,11 @@ use Rattle.machine.specs.declared.Registers.{Registers}
 use Rattle.machine.specs.Machine.{machine, ran, run}
 use Rattle.machine.proofs.Alike.{run-same}
 use Rattle.machine.proofs.Frame.{lengths-stay}
-use Rattle.skimp.specs.State.{numberBytes, registersOf, registerBytes, wordsAt, wordsBytes, stateBytes}
+use Rattle.skimp.specs.State.{registersOf, registerBytes, wordsAt, wordsBytes, stateBytes}
 use Rattle.skimp.specs.Run.{call, reply, refusedCall, ranCall, stateFits, objectCall, runCall}
-use Rattle.skimp.proofs.Bytes.{length-words, length-words-bytes}
+use Rattle.skimp.proofs.Bytes.{length-words, length-registers, length-state}
 
 -- ---- the bytes of the last state
-
-length-registers : (r : Registers) → length (registerBytes r) ≡ 20
-unfolding registerBytes numberBytes
-length-registers r = refl
 
 -- registers and words fill the whole state
 whole-state :
@@ -42,7 +38,7 @@ whole-state s r ws e =
     let place : 20 ≡ 0 + length (registerBytes r) = omega (arith, length-registers r) in
     ap (λ i. sets (sets s 0 (registerBytes r)) i (wordsBytes ws)) place
     ∙ sym (sets-append s 0 (registerBytes r) (wordsBytes ws))
-    ∙ sets-whole s (registerBytes r ++ wordsBytes ws) (length-append (registerBytes r) (wordsBytes ws) ∙ omega (arith, length-registers r, length-words-bytes ws, e))
+    ∙ sets-whole s (registerBytes r ++ wordsBytes ws) (length-state r ws ∙ sym e)
 
 -- what a run leaves, from the state st of n words
 pub left-call :

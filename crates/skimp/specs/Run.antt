@@ -1,6 +1,6 @@
 -- What a call of run replies and leaves, document 01 ("Run checks 21 to 25, never 31, then 26 ..") and include/skimp.h.
 -- Comments in quotes are document 01's words.
-use Prim.Native.Nat.{ℕ, _+_, _*_, _/_}
+use Prim.Native.Nat.{ℕ, _+_, _*_, _/_, _%_}
 use mathlib.Core.Bool.{Bool, true, false}
 use mathlib.Core.List.{List}
 use lib.Dec.{ltb, leb, eqb}
@@ -57,3 +57,9 @@ readCall (refused n place) state output budget = refusedCall n place state outpu
 -- "Run checks 21 to 25, never 31, then 26"
 unfoldable pub runCall : List ℕ → List ℕ → List ℕ → ℕ → Call
 runCall text state output budget = readCall (reading text) state output budget
+
+-- ---- two calls, one after the other
+
+-- the reply of both: that of the second, with "steps summed"; a refusal has no steps
+unfoldable pub replyOfBoth : ℕ → ℕ → ℕ
+replyOfBoth first second = pick (ltb (first / 4294967296) 21) (second + first % 4294967296) second
