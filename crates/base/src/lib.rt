@@ -1,1 +1,38 @@
-// Definitions and laws that every other crate cites. It has no functions: see specs/ and proofs/.
+// What every other crate uses: here, reading and storing at any place. Behind the end of a slice 0 is read and nothing is
+// stored, so these need no bounds. Definitions and laws are in specs/ and proofs/.
+ghost use mathlib.Core.Path.{_≡_};
+ghost use lib.ListN.{getD, set};
+
+pub fn byte_at(bytes: &[u8], i: usize) -> u8
+    ensures { λ r. ⌜ r ≡ getD (now (bytes .entry)) i 0 ⌝ }
+{
+    if i < bytes.len() {
+        return bytes[i];
+    }
+    0
+}
+
+pub fn word_at(words: &[u32], i: usize) -> u32
+    ensures { λ r. ⌜ r ≡ getD (now (words .entry)) i 0 ⌝ }
+{
+    if i < words.len() {
+        return words[i];
+    }
+    0
+}
+
+pub fn put_byte(bytes: &mut [u8], i: usize, b: u8)
+    ensures { λ _. ⌜ now (bytes .exit) ≡ set (now (bytes .entry)) i b ⌝ }
+{
+    if i < bytes.len() {
+        bytes[i] = b;
+    }
+}
+
+pub fn put_word(words: &mut [u32], i: usize, w: u32)
+    ensures { λ _. ⌜ now (words .exit) ≡ set (now (words .entry)) i w ⌝ }
+{
+    if i < words.len() {
+        words[i] = w;
+    }
+}

@@ -1,5 +1,8 @@
 // The machine that carries out orders, document 01. Orders are two arrays, their numbers (`number` of order's
 // specs/Order.antt) and their operands; a place outside them, and a number that no order has, count as STOP.
+use base::byte_at;
+use base::put_word;
+use base::word_at;
 use order::Operation;
 use word::Answer;
 use word::Relation;
@@ -28,18 +31,6 @@ const STOPPED: u32 = 20;
 const OUTPUT_FULL: u32 = 4;
 
 // ---- reading the arrays
-
-fn byte_at(bytes: &[u8], place: usize) -> u8
-    ensures { λ r. ⌜ r ≡ getD (now (bytes .entry)) place 0 ⌝ }
-{
-    if place < bytes.len() { bytes[place] } else { 0 }
-}
-
-fn word_at(words: &[u32], place: usize) -> u32
-    ensures { λ r. ⌜ r ≡ getD (now (words .entry)) place 0 ⌝ }
-{
-    if place < words.len() { words[place] } else { 0 }
-}
 
 struct Fetched {
     number: u8,
@@ -152,10 +143,7 @@ fn on_word(f: Operation, words: &[u32], w: u32, behind: usize, r: Registers) -> 
 fn store(words: &mut [u32], w: u32, a: u32)
     ensures { λ _. ⌜ now (words .exit) ≡ set (now (words .entry)) w a ⌝ }
 {
-    let place = w as usize;
-    if place < words.len() {
-        words[place] = a;
-    }
+    put_word(words, w as usize, a);
 }
 
 fn branch(relation: Relation, a: u32, behind: usize, r: Registers) -> Registers

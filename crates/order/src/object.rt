@@ -183,25 +183,7 @@ fn noted(scan: Scan, o: Order, at: usize, words: u32, n: u32) -> Scan
     }
 }
 
-// Puts the number of an order into its array, where that reaches so far.
-fn put_number(numbers: &mut [u8], at: usize, x: u8)
-    ensures { λ _. ⌜ now (numbers .exit) ≡ set (now (numbers .entry)) at x ⌝ }
-{
-    if at < numbers.len() {
-        numbers[at] = x;
-    }
-}
-
-// The same for its operand.
-fn put_operand(operands: &mut [u32], at: usize, x: u32)
-    ensures { λ _. ⌜ now (operands .exit) ≡ set (now (operands .entry)) at x ⌝ }
-{
-    if at < operands.len() {
-        operands[at] = x;
-    }
-}
-
-// Reads the good lines from a place on, at most n of them.
+// Reads the good lines from a place on, at most n of them, into the arrays as far as those reach.
 fn read_lines(
     s: &[u8],
     at: usize,
@@ -223,8 +205,8 @@ fn read_lines(
     while scan.count < n {
         match record_at(s, scan.at) {
             Record::Found(o, i) => {
-                put_number(numbers, scan.count as usize, number_of(o));
-                put_operand(operands, scan.count as usize, operand_of(o));
+                base::put_byte(numbers, scan.count as usize, number_of(o));
+                base::put_word(operands, scan.count as usize, operand_of(o));
                 scan = noted(scan, o, i, words, n);
             }
             Record::Missing => {

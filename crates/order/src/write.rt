@@ -3,7 +3,7 @@ use crate::number::operand_of;
 use crate::number::order_of;
 ghost use mathlib.Core.Path.{_≡_};
 ghost use Prim.Native.Nat.{_+_, _≤_, min};
-ghost use lib.ListN.{length, getD};
+ghost use lib.ListN.{length};
 ghost use Rattle.order.specs.Order.{orderOf, ordersFrom};
 ghost use Rattle.order.specs.Object.{decimal, heading, recordText, recordsText, headerText, text};
 ghost use Rattle.order.specs.Internal.{placed, putByte, putAll};
@@ -226,26 +226,6 @@ fn header_length(v: u32, t: u32, n: u32) -> usize
     decimal_length(v) + decimal_length(t) + decimal_length(n) + 7
 }
 
-// The number of an order in its array, 0 behind the end.
-fn number_at(numbers: &[u8], i: usize) -> u8
-    ensures { λ r. ⌜ r ≡ getD (now (numbers .entry)) i 0 ⌝ }
-{
-    if i < numbers.len() {
-        return numbers[i];
-    }
-    0
-}
-
-// The same for its operand.
-fn operand_at(operands: &[u32], i: usize) -> u32
-    ensures { λ r. ⌜ r ≡ getD (now (operands .entry)) i 0 ⌝ }
-{
-    if i < operands.len() {
-        return operands[i];
-    }
-    0
-}
-
 // The length of the text that `write` writes.
 pub fn text_length(numbers: &[u8], operands: &[u32], v: u32, t: u32, n: u32) -> usize
     ensures { λ r. ⌜ r ≡ length (text v t (ordersFrom 0 n (now (numbers .entry)) (now (operands .entry)))) ⌝ }
@@ -253,8 +233,8 @@ pub fn text_length(numbers: &[u8], operands: &[u32], v: u32, t: u32, n: u32) -> 
     let mut total = header_length(v, t, n);
     let mut i: u32 = 0;
     while i < n {
-        let k = number_at(numbers, i as usize);
-        let x = operand_at(operands, i as usize);
+        let k = base::byte_at(numbers, i as usize);
+        let x = base::word_at(operands, i as usize);
         total += record_length(k, x);
         i += 1;
     }
@@ -268,8 +248,8 @@ fn put_records(buffer: &mut [u8], at: usize, numbers: &[u8], operands: &[u32], n
     let mut j = at;
     let mut i: u32 = 0;
     while i < n {
-        let k = number_at(numbers, i as usize);
-        let x = operand_at(operands, i as usize);
+        let k = base::byte_at(numbers, i as usize);
+        let x = base::word_at(operands, i as usize);
         j = put_record(buffer, j, k, x);
         i += 1;
     }

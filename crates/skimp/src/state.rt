@@ -1,19 +1,12 @@
 // A state as bytes: include/skimp.h says which.
+use base::byte_at;
+use base::put_byte;
 use machine::Registers;
 ghost use mathlib.Core.Path.{_≡_};
 ghost use Prim.Native.Nat.{_+_, _*_, _≤_};
-ghost use lib.ListN.{length, getD, set};
+ghost use lib.ListN.{length};
 ghost use lib.Seq.{sets};
 ghost use Rattle.skimp.specs.State.{numberAt, numberBytes, registersOf, registerBytes, wordsAt, wordsBytes};
-
-fn byte_at(s: &[u8], i: usize) -> u8
-    ensures { λ r. ⌜ r ≡ getD (now (s .entry)) i 0 ⌝ }
-{
-    if i < s.len() {
-        return s[i];
-    }
-    0
-}
 
 // The number in four bytes, highest first.
 fn word_at(s: &[u8], i: usize) -> u32
@@ -48,15 +41,6 @@ pub(crate) fn load_words(s: &[u8], words: &mut [u32])
     while i < words.len() {
         words[i] = word_at(s, 20 + 4 * i);
         i += 1;
-    }
-}
-
-// Puts a byte where the state reaches so far.
-fn put_byte(s: &mut [u8], i: usize, b: u8)
-    ensures { λ _. ⌜ now (s .exit) ≡ set (now (s .entry)) i b ⌝ }
-{
-    if i < s.len() {
-        s[i] = b;
     }
 }
 

@@ -27,7 +27,7 @@ loop-again c =
     let q = p .before .before .before .before .before .before in
     let o = q .before .before .before .before .before in
     let l = o .before .before .before .before .before in
-    rw (c .noted .ensures, p .put-operand .ensures, p .before .operand-of .ensures, q .put-number .ensures, q .before .number-of .ensures)
+    rw (c .noted .ensures, p .put-word .ensures, p .before .operand-of .ensures, q .put-byte .ensures, q .before .number-of .ensures)
     (filling-turn _ _ _ _ _ _ _ _ _ (l .loop .inv) _ _ (o .before .before .before .if1 .taken) (sym (o .before .before .record-at .ensures) ∙ ap (orderFound _) (o .o .given .1)))
 
 same-length : tie.Need-same-length Inv-loop μ-loop

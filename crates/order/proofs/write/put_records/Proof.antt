@@ -22,7 +22,7 @@ loop-again : tie.Need-loop-again Inv-loop μ-loop
 loop-again c =
     let l = c .before .before .before .before .before .before in (
       ap (putAll _) (c .before .before .put-record .ensures)
-          ∙ records-turn _ _ _ _ _ _ _ (c .before .before .before .before .before .number-at .ensures) (c .before .before .before .before .operand-at .ensures) (l .loop-test .taken)
+          ∙ records-turn _ _ _ _ _ _ _ (c .before .before .before .before .before .byte-at .ensures) (c .before .before .before .before .word-at .ensures) (l .loop-test .taken)
           ∙ l .before .loop .inv .0,
       c .before .before .put-record .kept .0 ∙ l .before .loop .inv .1,
     )

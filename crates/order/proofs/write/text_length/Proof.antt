@@ -29,7 +29,7 @@ loop-again : tie.Need-loop-again Inv-loop μ-loop
 loop-again c =
     let l = c .before .before .before in
     let a = l .before .before .before .before .before .args in
-    let turn = count-turn (a .numbers .now) (a .operands .now) _ _ _ _ (c .before .before .number-at .ensures) (c .before .operand-at .ensures) (l .loop-test .taken) in (
+    let turn = count-turn (a .numbers .now) (a .operands .now) _ _ _ _ (c .before .before .byte-at .ensures) (c .before .word-at .ensures) (l .loop-test .taken) in (
       omega (arith, l .before .loop .inv .0, c .record-length .ensures .0, turn),
       omega (arith, l .before .loop .inv .1, c .record-length .ensures .1),
     )

@@ -1,14 +1,14 @@
 use mathlib.Core.Path.{sym}
 use lib.Seq.{set-out}
 use borrow.Author.Needs.{needs}
-use Rattle.order.proofs.object.put_number.Statement.{statement}
-use Rattle.order.proofs.object.put_number.Tie as tie
+use Rattle.base.proofs.put_byte.Statement.{statement}
+use Rattle.base.proofs.put_byte.Tie as tie
 
 returns-2 : tie.Need-returns-2
 returns-2 c = sym (set-out _ _ _ (c .if1 .left))
 
-pub put-number-spec : {M : Type 1} → statement M
-put-number-spec = tie.close (tie.spec
+pub put-byte-spec : {M : Type 1} → statement M
+put-byte-spec = tie.close (tie.spec
     (λ c. search needs)
     (λ c. search needs)
     (λ c. search needs)
