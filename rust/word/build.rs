@@ -1,26 +1,8 @@
 //! Links the static archive of the proved word arithmetic.
 
-use std::env;
-use std::path::PathBuf;
-use std::process::ExitCode;
+#[path = "../link.rs"]
+mod link;
 
-fn main() -> ExitCode {
-    println!("cargo:rerun-if-env-changed=SKIMP_STATICLIB");
-    let manifest = PathBuf::from(env::var_os("CARGO_MANIFEST_DIR").expect("cargo sets it"));
-    let folder = match env::var_os("SKIMP_STATICLIB") {
-        Some(folder) => manifest.join(folder),
-        None => manifest.join("../../target/staticlib"),
-    };
-    let archive = folder.join("libword_probe.a");
-    if !archive.is_file() {
-        eprintln!(
-            "{} is missing: run `make test` (or `rt staticlib word_probe`) in the repository's root",
-            archive.display()
-        );
-        return ExitCode::FAILURE;
-    }
-    println!("cargo:rerun-if-changed={}", archive.display());
-    println!("cargo:rustc-link-search=native={}", folder.display());
-    println!("cargo:rustc-link-lib=static=word_probe");
-    ExitCode::SUCCESS
+fn main() -> std::process::ExitCode {
+    link::link("word_probe")
 }

@@ -16,7 +16,7 @@ use Rattle.order.specs.Object.{onFront, fixed, digits, numeral, withinLimits, h
 use Rattle.order.specs.Object.{firstStop, firstOperand, stopLast, exactly}
 use Rattle.machine.specs.Machine.{machine, ran, send, run}
 
-abbrev worked : List ℕ
+abbrev pub worked : List ℕ
 worked = bytes
     "BOX\t2\t2\t21\nLOAD\tK\t3\nSTR\tD\t2\nLOAD\tD\t2\nSTR\tD\t4\nLOAD\tK\t2\nSUB\tK\t5\nDIV\tK\t2\nSTR\tD\t5\nLOAD\tD\t4\nSUB\tD\t5\nSTR\tD\t3\nLOAD\tD\t3\nCMP\tK\t4\nBLE\tA\t17\nLOAD\tD\t3\nSEND\t-\t0\nJMP\tA\t18\nJMP\tA\t18\nLOAD\tD\t2\nSEND\t-\t0\nSTOP\t-\t0\n"
 

@@ -6,15 +6,16 @@ use lib.Dec.{eqb}
 use lib.ListN.{length, getD}
 use Rattle.order.specs.declared.Order.{Order}
 use Rattle.order.specs.declared.Order.the-variants.{Stop}
+use Rattle.order.specs.Limits.{mostVariables, mostTemporaries, mostOrders}
 use Rattle.order.specs.Order.{operand}
 use Rattle.order.specs.Object.{operandRefusal, isStop}
 
 pub record Good (v t : ℕ) (os : List Order) : Type 0 where
-  -- 64 variables, 32 temporaries, 1 to 1,024 orders
-  pub variables : v ≤ 64
-  pub temporaries : t ≤ 32
+  -- within the limits, and at least one order
+  pub variables : v ≤ mostVariables
+  pub temporaries : t ≤ mostTemporaries
   pub some-orders : 1 ≤ length os
-  pub few-orders : length os ≤ 1024
+  pub few-orders : length os ≤ mostOrders
   -- "Numbers are decimal, 0 to 2147483647"
   pub numbers : (k : ℕ) → k < length os → operand (getD os k Stop) ≤ 2147483647
   -- words in 2..V+T+1, addresses below N

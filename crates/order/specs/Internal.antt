@@ -18,6 +18,7 @@ use Rattle.order.specs.declared.text.Place.{Place}
 use Rattle.order.specs.declared.text.Place.the-variants.{Behind, Missing}
 use Rattle.order.specs.declared.text.Numeral.{Numeral}
 use Rattle.order.specs.declared.text.Numeral.the-variants.{Number, Missing as NoNumber}
+use Rattle.order.specs.Limits.{mostVariables, mostTemporaries, mostOrders}
 use Rattle.order.specs.Order.{operand, shapes, orderOf}
 use Rattle.order.specs.Object.{Front, found, missing, onFront, fixed, numeral, heading, Header, Lines, Reading, refused, firstOperand, firstStop, isStop}
 use Rattle.order.specs.Answers.{Verdict, good, refusal}
@@ -54,7 +55,7 @@ headerFound s (FoundHead v t n i) = found (record { variables = v; temporaries =
 headerFound s NoHead = missing
 
 abbrev pub headerBounded : Head → Type 0
-headerBounded (FoundHead v t n i) = (v ≤ 64) × (t ≤ 32) × (0 < n) × (n ≤ 1024)
+headerBounded (FoundHead v t n i) = (v ≤ mostVariables) × (t ≤ mostTemporaries) × (0 < n) × (n ≤ mostOrders)
 headerBounded NoHead = Unit {0}
 
 -- ---- the records, one after the other

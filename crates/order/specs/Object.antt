@@ -9,6 +9,7 @@ use Rattle.base.specs.Choice.{pick}
 use Rattle.base.specs.Text.{bytes}
 use Rattle.order.specs.declared.Order.{Order}
 use Rattle.order.specs.declared.Order.the-variants.{Word, Number, Store, Neg, Not, Jump, Branch, Send, Stop}
+use Rattle.order.specs.Limits.{mostVariables, mostTemporaries, mostOrders}
 use Rattle.order.specs.Order.{name, kind, operand, shapes}
 
 -- ---- the text of an object
@@ -87,9 +88,10 @@ pub record Header : Type 0 where
   pub temporaries : ℕ
   pub orders : ℕ
 
--- 21 "header not of the form or over a limit": 64 variables, 32 temporaries, 1,024 orders. "N is at least 1."
+-- 21 "header not of the form or over a limit". "N is at least 1."
 unfoldable pub withinLimits : ℕ → ℕ → ℕ → Bool
-withinLimits v t n = pick (ltb 64 v) false (pick (ltb 32 t) false (pick (ltb 1024 n) false (ltb 0 n)))
+withinLimits v t n =
+    pick (ltb mostVariables v) false (pick (ltb mostTemporaries t) false (pick (ltb mostOrders n) false (ltb 0 n)))
 
 unfoldable pub headerAt : List ℕ → Front Header
 headerAt l =

@@ -1,5 +1,8 @@
 // Reading an object: its header, its records, and the checks 21 to 25 in document 01's order.
 use crate::Order;
+use crate::MOST_ORDERS;
+use crate::MOST_TEMPORARIES;
+use crate::MOST_VARIABLES;
 use crate::number::number_of;
 use crate::number::operand_of;
 use crate::record::Record;
@@ -54,13 +57,13 @@ struct Scan {
 fn within_limits(v: u32, t: u32, n: u32) -> bool
     ensures { λ r. ⌜ r ≡ withinLimits v t n ⌝ }
 {
-    if 64 < v {
+    if MOST_VARIABLES < v {
         return false;
     }
-    if 32 < t {
+    if MOST_TEMPORARIES < t {
         return false;
     }
-    if 1024 < n {
+    if MOST_ORDERS < n {
         return false;
     }
     0 < n

@@ -2,3 +2,4 @@ pub mod Bytes
 pub mod Calls
 pub mod Stored
 pub mod Resume
+pub mod Worked

@@ -7,6 +7,7 @@ use machine::Registers;
 ghost use mathlib.Core.Path.{_≡_};
 ghost use Prim.Native.Nat.{_+_, _*_, _≤_};
 ghost use lib.ListN.{length};
+ghost use Rattle.order.specs.Limits.{mostWords};
 ghost use Rattle.order.specs.Order.{ordersOf};
 ghost use Rattle.machine.specs.Machine.{machine, run as spec-run};
 ghost use Rattle.skimp.specs.State.{registersOf, wordsAt};
@@ -42,7 +43,7 @@ fn registers_fit(n: u32, room: u64, r: Registers) -> bool
 
 // 26: whether a state fits an object with so many words and n orders.
 fn state_fits(words: usize, n: u32, state: &[u8], output: &[u8]) -> bool
-    requires { ⌜ words ≤ 98 ⌝ }
+    requires { ⌜ words ≤ mostWords ⌝ }
     ensures { λ r. ⌜ r ≡ stateFits words n (now (state .entry)) (now (output .entry)) ⌝ }
 {
     if state.len() != 20 + 4 * words {
@@ -61,7 +62,7 @@ fn run_with(
     output: &mut [u8],
     budget: u32,
 ) -> u64
-    requires few { ⌜ length (now words) ≤ 98 ⌝ }
+    requires few { ⌜ length (now words) ≤ mostWords ⌝ }
     requires fitting { ⌜ length (now state) ≡ 20 + 4 * length (now words) ⌝ }
     ensures { λ r. ⌜ call r (now (state .exit)) (now (output .exit))
         ≡ ranCall
@@ -92,7 +93,7 @@ pub(crate) fn run_orders(
     output: &mut [u8],
     budget: u32,
 ) -> u64
-    requires { ⌜ words ≤ 98 ⌝ }
+    requires { ⌜ words ≤ mostWords ⌝ }
     ensures { λ r. ⌜ call r (now (state .exit)) (now (output .exit))
         ≡ objectCall
         words

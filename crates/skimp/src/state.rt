@@ -6,6 +6,7 @@ ghost use mathlib.Core.Path.{_≡_};
 ghost use Prim.Native.Nat.{_+_, _*_, _≤_};
 ghost use lib.ListN.{length};
 ghost use lib.Seq.{sets};
+ghost use Rattle.order.specs.Limits.{mostWords};
 ghost use Rattle.skimp.specs.State.{numberAt, numberBytes, registersOf, registerBytes, wordsAt, wordsBytes};
 
 // The number in four bytes, highest first.
@@ -34,7 +35,7 @@ pub(crate) fn registers(s: &[u8]) -> Registers
 
 // The words of the frame, as many as fit.
 pub(crate) fn load_words(s: &[u8], words: &mut [u32])
-    requires { ⌜ length (now words) ≤ 98 ⌝ }
+    requires { ⌜ length (now words) ≤ mostWords ⌝ }
     ensures { λ _. ⌜ now (words .exit) ≡ wordsAt (length (now (words .entry))) 20 (now (s .entry)) ⌝ }
 {
     let mut i = 0;
@@ -66,7 +67,7 @@ pub(crate) fn store_registers(s: &mut [u8], r: Registers)
 }
 
 pub(crate) fn store_words(s: &mut [u8], words: &[u32])
-    requires { ⌜ length (now words) ≤ 98 ⌝ }
+    requires { ⌜ length (now words) ≤ mostWords ⌝ }
     ensures { λ _. ⌜ now (s .exit) ≡ sets (now (s .entry)) 20 (wordsBytes (now (words .entry))) ⌝ }
 {
     let mut i = 0;
