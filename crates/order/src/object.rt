@@ -1,8 +1,8 @@
 // Reading an object: its header, its records, and the checks 21 to 25 in document 01's order.
-use crate::Order;
 use crate::MOST_ORDERS;
 use crate::MOST_TEMPORARIES;
 use crate::MOST_VARIABLES;
+use crate::Order;
 use crate::number::number_of;
 use crate::number::operand_of;
 use crate::record::Record;
