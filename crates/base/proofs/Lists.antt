@@ -81,17 +81,12 @@ module _ {A : Type 0} where
       let three : i + 3 ≡ suc (suc (suc i)) = omega arith in
       rw (one, two, three)
 
-  -- ---- a list with its default behind it
+  -- ---- a list that repeats one element
 
   pub getD-repeated : (n i : ℕ) (d : A) → getD (replicate n d) i d ≡ d
   getD-repeated zero i d = refl
   getD-repeated (suc n) zero d = refl
   getD-repeated (suc n) (suc i) d = getD-repeated n i d
-
-  pub getD-padded : (l : List A) (n i : ℕ) (d : A) → getD (l ++ replicate n d) i d ≡ getD l i d
-  getD-padded [] n i d = getD-repeated n i d
-  getD-padded (x ∷ l) n zero d = refl
-  getD-padded (x ∷ l) n (suc i) d = getD-padded l n i d
 
 -- what holds of a head and of the n elements behind it
 pub each-cons : {A : Type 0} (P : A → Type 0) (a d : A) (l : List A) (n : ℕ) → P a → ((i : ℕ) → i < n → P (getD l i d))

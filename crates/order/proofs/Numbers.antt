@@ -1,11 +1,10 @@
 -- The number of an order and its operand tell the order: two arrays hold a program and lose nothing of it.
 use Prim.Native.Nat.{ℕ, zero, suc, _+_, _<_}
 use mathlib.Core.Path.{_≡_, refl, sym, ap, ap₂, _∙_}
-use mathlib.Core.List.{List, [], _∷_, _++_, map}
+use mathlib.Core.List.{List, [], _∷_, map}
 use native.Mathlib.Omega.{arith}
-use lib.ListN.{getD, replicate, List·getD-map, List·getD-eq-default}
+use lib.ListN.{getD, List·getD-eq-default}
 use Rattle.base.proofs.Cases.{by-less}
-use Rattle.base.proofs.Lists.{getD-padded}
 use Rattle.word.specs.declared.Relation.{Relation}
 use Rattle.word.specs.declared.Relation.the-variants.{Equal, Unequal, Less, AtMost, Greater, AtLeast}
 use Rattle.order.specs.declared.Operation.{Operation}
@@ -74,13 +73,3 @@ ordersOf-at (k ∷ ks) [] zero = refl
 ordersOf-at (k ∷ ks) [] (suc i) = ordersOf-at ks [] i
 ordersOf-at (k ∷ ks) (v ∷ vs) zero = refl
 ordersOf-at (k ∷ ks) (v ∷ vs) (suc i) = ordersOf-at ks vs i
-
--- zeros behind a program change none of its orders: 0 is the number of STOP, the order past the last
-pub ordersOf-padded : (os : List Order) (a b i : ℕ)
-    → getD (ordersOf (map number os ++ replicate a 0) (map operand os ++ replicate b 0)) i Stop ≡ getD os i Stop
-ordersOf-padded os a b i =
-    ordersOf-at (map number os ++ replicate a 0) (map operand os ++ replicate b 0) i
-    ∙ ap₂ orderOf
-    (getD-padded (map number os) a i 0 ∙ List·getD-map number os i Stop)
-    (getD-padded (map operand os) b i 0 ∙ List·getD-map operand os i Stop)
-    ∙ order-again (getD os i Stop)
