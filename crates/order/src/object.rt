@@ -14,7 +14,7 @@ use crate::text::numeral_at;
 ghost use mathlib.Core.Path.{_≡_};
 ghost use mathlib.Core.List.{map};
 ghost use Prim.Native.Nat.{_<_};
-ghost use lib.ListN.{drop, set};
+ghost use lib.ListN.{drop};
 ghost use lib.Seq.{sets};
 ghost use Rattle.order.specs.Order.{number, operand};
 ghost use Rattle.order.specs.Object.{headerAt, withinLimits, linesAt, linesOf, reading, isStop};

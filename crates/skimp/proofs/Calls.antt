@@ -58,14 +58,15 @@ left-call os budget n r ws out k s vs left st words registers e size =
 
 -- ---- the state that fits
 
-only-yes : (t u : Bool) → pick t u false ≡ true → t ≡ true
+-- a choice whose second part is no says yes only where its test holds and its first part says yes
+pub both-yes : (t u : Bool) → pick t u false ≡ true → (t ≡ true) × (u ≡ true)
 unfolding pick
-only-yes true u e = refl
-only-yes false u e = e
+both-yes true u e = (refl, e)
+both-yes false u e = let z : _≡_ {A = ℕ} 0 1 = ap (λ b. pick b 1 0) e in absurd (omega arith)
 
 fits-length : (words n : ℕ) (state output : List ℕ) → stateFits words n state output ≡ true → length state ≡ 20 + 4 * words
 unfolding stateFits
-fits-length words n state output e = eqb-true (length state) (20 + 4 * words) (only-yes _ _ e)
+fits-length words n state output e = eqb-true (length state) (20 + 4 * words) (both-yes _ _ e .0)
 
 -- a part of the frame has the words of a state that fits
 pub part-fits :

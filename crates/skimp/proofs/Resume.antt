@@ -2,7 +2,7 @@
 -- with nothing kept between them but the bytes of state and output.
 use Prim.Native.Nat.{ℕ, zero, suc, _+_, _*_, _/_, _<_, _≤_}
 use mathlib.Core.Path.{_≡_, refl, sym, ap, _∙_}
-use mathlib.Core.Bool.{Bool, true, false}
+use mathlib.Core.Bool.{true, false}
 use mathlib.Core.List.{List}
 use mathlib.Core.Logic.{inl, inr, ⊎-elim}
 use native.Mathlib.Omega.{arith}
@@ -25,6 +25,7 @@ use Rattle.machine.proofs.Frame.{lengths-stay, sent-within-room, ending-known, 
 use Rattle.skimp.specs.State.{numberAt, registersOf, wordsAt, stateBytes}
 use Rattle.skimp.specs.Run.{Call, call, reply, refusedCall, isEnding, ranCall, registersFit, stateFits, objectCall, readCall, runCall, replyOfBoth}
 use Rattle.skimp.proofs.Bytes.{number-four, length-words, length-state}
+use Rattle.skimp.proofs.Calls.{both-yes}
 use Rattle.skimp.proofs.Stored.{Held, registers-again, words-again}
 
 -- ---- the parts of a call
@@ -52,11 +53,6 @@ unfolding replyOfBoth pick
 steps-summed e k f j h g = rw (lt-ltb (reply e k / 4294967296) 21 (omega arith)) (omega arith)
 
 -- ---- the state that fits, part by part
-
-both-yes : (t u : Bool) → pick t u false ≡ true → (t ≡ true) × (u ≡ true)
-unfolding pick
-both-yes true u e = (refl, e)
-both-yes false u e = let z : _≡_ {A = ℕ} 0 1 = ap (λ b. pick b 1 0) e in absurd (omega arith)
 
 ending-of : (e : ℕ) → isEnding e ≡ true → Ending e
 unfolding isEnding pick

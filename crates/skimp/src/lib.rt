@@ -11,8 +11,8 @@ pub extern "C" fn skimp_run(object: &[u8], state: &mut [u8], output: &mut [u8], 
     ensures { λ r. ⌜ call r (now (state .exit)) (now (output .exit))
         ≡ runCall (now (object .entry)) (now (state .entry)) (now (output .entry)) budget ⌝ }
 {
-    let mut numbers = [0u8; 1024];
-    let mut operands = [0u32; 1024];
+    let mut numbers = [0u8; order::MOST_ORDERS as usize];
+    let mut operands = [0u32; order::MOST_ORDERS as usize];
     match order::object::read(object, &mut numbers, &mut operands) {
         Reading::Good(v, t, n) => {
             let words = (v + t + 2) as usize;

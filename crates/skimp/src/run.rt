@@ -13,6 +13,9 @@ ghost use Rattle.machine.specs.Machine.{machine, run as spec-run};
 ghost use Rattle.skimp.specs.State.{registersOf, wordsAt};
 ghost use Rattle.skimp.specs.Run.{call, reply as replyOf, ranCall, objectCall, isEnding, registersFit, stateFits};
 
+// The words of the longest frame: `mostWords` of order/specs/Limits.antt.
+const MOST_WORDS: usize = (order::MOST_VARIABLES + order::MOST_TEMPORARIES + 2) as usize;
+
 pub(crate) fn reply(number: u32, value: u32) -> u64
     ensures { λ r. ⌜ r ≡ replyOf number value ⌝ }
 {
@@ -103,7 +106,7 @@ pub(crate) fn run_orders(
         (now (output .entry))
         budget ⌝ }
 {
-    let mut frame = [0u32; 98];
+    let mut frame = [0u32; MOST_WORDS];
     if state_fits(words, n, state, output) {
         return run_with(
             numbers,

@@ -10,7 +10,7 @@ ghost use Rattle.order.specs.Limits.{mostWords};
 ghost use Rattle.skimp.specs.State.{numberAt, numberBytes, registersOf, registerBytes, wordsAt, wordsBytes};
 
 // The number in four bytes, highest first.
-fn word_at(s: &[u8], i: usize) -> u32
+fn load_word(s: &[u8], i: usize) -> u32
     requires { ⌜ i ≤ 1000 ⌝ }
     ensures { λ r. ⌜ r ≡ numberAt 4 i (now (s .entry)) ⌝ }
 {
@@ -24,12 +24,12 @@ fn word_at(s: &[u8], i: usize) -> u32
 pub(crate) fn registers(s: &[u8]) -> Registers
     ensures { λ r. ⌜ r ≡ registersOf (now (s .entry)) ⌝ }
 {
-    let high = word_at(s, 8) as u64;
+    let high = load_word(s, 8) as u64;
     Registers {
-        acc: word_at(s, 0),
-        next: word_at(s, 4) as usize,
-        sent: high * 4294967296 + word_at(s, 12) as u64,
-        ending: word_at(s, 16),
+        acc: load_word(s, 0),
+        next: load_word(s, 4) as usize,
+        sent: high * 4294967296 + load_word(s, 12) as u64,
+        ending: load_word(s, 16),
     }
 }
 
@@ -40,13 +40,13 @@ pub(crate) fn load_words(s: &[u8], words: &mut [u32])
 {
     let mut i = 0;
     while i < words.len() {
-        words[i] = word_at(s, 20 + 4 * i);
+        words[i] = load_word(s, 20 + 4 * i);
         i += 1;
     }
 }
 
 // A number in four bytes, highest first.
-fn put_word(s: &mut [u8], i: usize, w: u32)
+fn store_word(s: &mut [u8], i: usize, w: u32)
     requires { ⌜ i ≤ 1000 ⌝ }
     ensures { λ _. ⌜ now (s .exit) ≡ sets (now (s .entry)) i (numberBytes 4 w) ⌝ }
 {
@@ -59,11 +59,11 @@ fn put_word(s: &mut [u8], i: usize, w: u32)
 pub(crate) fn store_registers(s: &mut [u8], r: Registers)
     ensures { λ _. ⌜ now (s .exit) ≡ sets (now (s .entry)) 0 (registerBytes r) ⌝ }
 {
-    put_word(s, 0, r.acc);
-    put_word(s, 4, (r.next % 4294967296) as u32);
-    put_word(s, 8, (r.sent / 4294967296) as u32);
-    put_word(s, 12, (r.sent % 4294967296) as u32);
-    put_word(s, 16, r.ending);
+    store_word(s, 0, r.acc);
+    store_word(s, 4, (r.next % 4294967296) as u32);
+    store_word(s, 8, (r.sent / 4294967296) as u32);
+    store_word(s, 12, (r.sent % 4294967296) as u32);
+    store_word(s, 16, r.ending);
 }
 
 pub(crate) fn store_words(s: &mut [u8], words: &[u32])
@@ -72,7 +72,7 @@ pub(crate) fn store_words(s: &mut [u8], words: &[u32])
 {
     let mut i = 0;
     while i < words.len() {
-        put_word(s, 20 + 4 * i, words[i]);
+        store_word(s, 20 + 4 * i, words[i]);
         i += 1;
     }
 }

@@ -19,14 +19,14 @@ loop-holds : tie.Need-loop-holds Inv-loop μ-loop
 unfolding wordsAt
 loop-holds c = (refl, omega arith, refl, c .before .before .pre)
 
-mul-word-at : tie.Need-mul-word-at Inv-loop μ-loop
-mul-word-at c = record { fits = omega (arith, c .before .loop .inv .1, c .before .loop .inv .3) }
+mul-load-word : tie.Need-mul-load-word Inv-loop μ-loop
+mul-load-word c = record { fits = omega (arith, c .before .loop .inv .1, c .before .loop .inv .3) }
 
-add-word-at : tie.Need-add-word-at Inv-loop μ-loop
-add-word-at c = record { fits = omega (arith, c .before .loop .inv .1, c .before .loop .inv .3) }
+add-load-word : tie.Need-add-load-word Inv-loop μ-loop
+add-load-word c = record { fits = omega (arith, c .before .loop .inv .1, c .before .loop .inv .3) }
 
-word-at-requires : tie.Need-word-at-requires Inv-loop μ-loop
-word-at-requires c κs = let l = c .before .loop .inv in omega (arith, l .2, l .3, c .loop-test .taken)
+load-word-requires : tie.Need-load-word-requires Inv-loop μ-loop
+load-word-requires c κs = let l = c .before .loop .inv in omega (arith, l .2, l .3, c .loop-test .taken)
 
 mul-words : tie.Need-mul-words Inv-loop μ-loop
 mul-words c = record { fits = omega (arith, c .before .before .loop .inv .1, c .before .before .loop .inv .3) }
@@ -38,15 +38,15 @@ add-i : tie.Need-add-i Inv-loop μ-loop
 add-i c = record { fits = omega (arith, c .before .before .loop .inv .1, c .before .before .loop .inv .3) }
 
 loop-less : tie.Need-loop-less Inv-loop μ-loop
-loop-less c = omega (arith, length-set (c .before .before .loop .words) (c .before .before .loop .i) (c .word-at .result), c .before .loop-test .taken)
+loop-less c = omega (arith, length-set (c .before .before .loop .words) (c .before .before .loop .i) (c .load-word .result), c .before .loop-test .taken)
 
 loop-again : tie.Need-loop-again Inv-loop μ-loop
 loop-again c =
     let l = c .before .before .loop in
     let h : l .i < length (c .before .before .before .before .before .args .words .now) = omega (arith, l .inv .2, c .before .loop-test .taken) in (
-      rw (l .inv .0, c .word-at .ensures) (load-turn _ _ _ h),
+      rw (l .inv .0, c .load-word .ensures) (load-turn _ _ _ h),
       omega (arith, h),
-      length-set (l .words) (l .i) (c .word-at .result) ∙ l .inv .2,
+      length-set (l .words) (l .i) (c .load-word .result) ∙ l .inv .2,
       l .inv .3,
     )
 
@@ -63,9 +63,9 @@ load-words-spec =
     Inv-loop
     μ-loop
     loop-holds
-    mul-word-at
-    add-word-at
-    word-at-requires
+    mul-load-word
+    add-load-word
+    load-word-requires
     mul-words
     slice-write-words
     add-i

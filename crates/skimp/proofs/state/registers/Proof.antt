@@ -6,7 +6,7 @@ use Rattle.skimp.proofs.state.registers.Tie as tie
 
 returns : tie.Need-returns
 returns c =
-    rw (← number-eight _, c .before .before .before .before .word-at .ensures, c .before .before .before .word-at2 .ensures, c .before .before .word-at3 .ensures, c .before .word-at4 .ensures, c .word-at5 .ensures) refl
+    rw (← number-eight _, c .before .before .before .before .load-word .ensures, c .before .before .before .load-word2 .ensures, c .before .before .load-word3 .ensures, c .before .load-word4 .ensures, c .load-word5 .ensures) refl
 
 pub registers-spec : {M : Type 1} → statement M
 registers-spec =

@@ -10,7 +10,7 @@ returns c =
     let f = e .before .before .before .before .before in
     let g = f .before .before .before .before .before in
     let h = g .before .before .before .before .before in
-    rw (d .put-word5 .ensures, e .put-word4 .ensures, f .put-word3 .ensures, g .put-word2 .ensures, h .put-word .ensures) (put-registers _ _)
+    rw (d .store-word5 .ensures, e .store-word4 .ensures, f .store-word3 .ensures, g .store-word2 .ensures, h .store-word .ensures) (put-registers _ _)
 
 pub store-registers-spec : {M : Type 1} → statement M
 store-registers-spec =

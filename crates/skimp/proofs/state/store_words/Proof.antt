@@ -18,20 +18,20 @@ loop-holds : tie.Need-loop-holds Inv-loop μ-loop
 unfolding wordsBytes
 loop-holds c = (refl, omega arith, c .before .before .pre)
 
-mul-put-word : tie.Need-mul-put-word Inv-loop μ-loop
-mul-put-word c = record { fits = omega (arith, c .before .before .loop .inv .1, c .before .before .loop .inv .2) }
+mul-store-word : tie.Need-mul-store-word Inv-loop μ-loop
+mul-store-word c = record { fits = omega (arith, c .before .before .loop .inv .1, c .before .before .loop .inv .2) }
 
-add-put-word : tie.Need-add-put-word Inv-loop μ-loop
-add-put-word c = record { fits = omega (arith, c .before .before .loop .inv .1, c .before .before .loop .inv .2) }
+add-store-word : tie.Need-add-store-word Inv-loop μ-loop
+add-store-word c = record { fits = omega (arith, c .before .before .loop .inv .1, c .before .before .loop .inv .2) }
 
-mul-put-word-2 : tie.Need-mul-put-word-2 Inv-loop μ-loop
-mul-put-word-2 c = record { fits = omega (arith, c .before .before .loop .inv .1, c .before .before .loop .inv .2) }
+mul-store-word-2 : tie.Need-mul-store-word-2 Inv-loop μ-loop
+mul-store-word-2 c = record { fits = omega (arith, c .before .before .loop .inv .1, c .before .before .loop .inv .2) }
 
-shared-slice-read-put-word : tie.Need-shared-slice-read-put-word Inv-loop μ-loop
-shared-slice-read-put-word c = c .before .before .loop-test .taken
+shared-slice-read-store-word : tie.Need-shared-slice-read-store-word Inv-loop μ-loop
+shared-slice-read-store-word c = c .before .before .loop-test .taken
 
-put-word-requires : tie.Need-put-word-requires Inv-loop μ-loop
-put-word-requires c κs = omega (arith, c .before .before .loop-test .taken, c .before .before .before .loop .inv .2)
+store-word-requires : tie.Need-store-word-requires Inv-loop μ-loop
+store-word-requires c κs = omega (arith, c .before .before .loop-test .taken, c .before .before .before .loop .inv .2)
 
 add-i : tie.Need-add-i Inv-loop μ-loop
 add-i c = record { fits = omega (arith, c .before .before .before .before .before .before .loop .inv .1, c .before .before .before .before .before .before .loop .inv .2) }
@@ -43,7 +43,7 @@ loop-again : tie.Need-loop-again Inv-loop μ-loop
 loop-again c =
     let l = c .before .before .before .before .before .before .loop in
     let h = c .before .before .before .before .before .loop-test .taken in
-    (rw (c .before .before .put-word .ensures, l .inv .0) (store-turn _ _ _ h), omega (arith, h), l .inv .2)
+    (rw (c .before .before .store-word .ensures, l .inv .0) (store-turn _ _ _ h), omega (arith, h), l .inv .2)
 
 same-length : tie.Need-same-length Inv-loop μ-loop
 same-length c =
@@ -60,11 +60,11 @@ store-words-spec =
     Inv-loop
     μ-loop
     loop-holds
-    mul-put-word
-    add-put-word
-    mul-put-word-2
-    shared-slice-read-put-word
-    put-word-requires
+    mul-store-word
+    add-store-word
+    mul-store-word-2
+    shared-slice-read-store-word
+    store-word-requires
     add-i
     loop-less
     loop-again

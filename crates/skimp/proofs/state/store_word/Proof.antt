@@ -1,7 +1,7 @@
 use Rattle.skimp.proofs.Bytes.{put-four}
 use borrow.Author.Needs.{needs}
-use Rattle.skimp.proofs.state.put_word.Statement.{statement}
-use Rattle.skimp.proofs.state.put_word.Tie as tie
+use Rattle.skimp.proofs.state.store_word.Statement.{statement}
+use Rattle.skimp.proofs.state.store_word.Tie as tie
 
 returns : tie.Need-returns
 returns c =
@@ -11,8 +11,8 @@ returns c =
     let g = f .before .before .before .before in
     rw (d .put-byte4 .ensures, e .put-byte3 .ensures, f .put-byte2 .ensures, g .put-byte .ensures) (put-four _ _ _)
 
-pub put-word-spec : {M : Type 1} → statement M
-put-word-spec =
+pub store-word-spec : {M : Type 1} → statement M
+store-word-spec =
     tie.close
     (tie.spec
     (λ c. search needs)
