@@ -39,7 +39,7 @@ module _ (os : List Order) (m : Machine) where
 pub next-fate : (os : List Order) (r : Registers) (ws out : List ℕ) → Fate r ws out (nextEffect os (machine r ws out))
 next-fate os r ws out = fate (case r ws out (getD os (r .next) Stop))
 
-fault-numbers : {r : Registers} {ws out : List ℕ} {e : Effect} (n : ℕ) → Fate r ws out e → e ≡ failed n → (1 ≤ n) × (n ≤ 4)
+pub fault-numbers : {r : Registers} {ws out : List ℕ} {e : Effect} (n : ℕ) → Fate r ws out e → e ≡ failed n → (1 ≤ n) × (n ≤ 4)
 fault-numbers n (goes s vs left _ _ _) e = let z : _≡_ {A = ℕ} 0 1 = cc in absurd (omega arith)
 fault-numbers n ends e = let z : _≡_ {A = ℕ} 0 1 = cc in absurd (omega arith)
 fault-numbers n (fails k low high) e = let i : k ≡ n = cc in (omega arith, omega arith)

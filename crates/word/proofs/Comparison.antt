@@ -20,7 +20,7 @@ use Rattle.word.proofs.Patterns.{signed-equal}
 leb-not : (m n : ℕ) → leb m n ≡ not (ltb n m)
 leb-not m n = by-less n m (λ l. lt-leb m n l ∙ sym (ap not (lt-ltb n m l))) (λ g. le-leb m n g ∙ sym (ap not (le-ltb n m g)))
 
-at-most-not : (x y : ℤ) → leZ x y ≡ not (ltZ y x)
+pub at-most-not : (x y : ℤ) → leZ x y ≡ not (ltZ y x)
 at-most-not (pos a) (pos b) = leb-not a b
 at-most-not (pos a) (negsuc b) = refl
 at-most-not (negsuc a) (pos b) = refl

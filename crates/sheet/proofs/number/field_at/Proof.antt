@@ -1,0 +1,11 @@
+use mathlib.Core.Path.{ap₂, _∙_}
+use Rattle.sheet.specs.Fields.{fieldOf}
+use borrow.Author.Needs.{needs}
+use Rattle.sheet.proofs.number.field_at.Statement.{statement}
+use Rattle.sheet.proofs.number.field_at.Tie as tie
+
+returns : tie.Need-returns
+returns c = c .field-of .ensures ∙ ap₂ fieldOf (c .before .before .byte-at .ensures) (c .before .word-at .ensures)
+
+pub field-at-spec : {M : Type 1} → statement M
+field-at-spec = tie.close (tie.spec (λ c κs. search needs) (λ c κs. search needs) (λ c κs. search needs) returns)

@@ -1,0 +1,7 @@
+pub mod Sheet
+pub mod Translation
+pub mod Within
+pub mod Fields
+pub mod Meaning
+pub mod Following
+pub mod ReadBack
