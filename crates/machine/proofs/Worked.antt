@@ -7,12 +7,13 @@ use Rattle.base.specs.Choice.{pick}
 use Rattle.base.specs.Text.{bytes}
 use Rattle.word.specs.declared.Relation.the-variants.{AtMost}
 use Rattle.word.specs.Word.{wrap, signed, word, sum, difference, product, negation, quotient, comparison}
+use Rattle.text.specs.Pieces.{digitsOf, onFront, fixed, digits, numeral}
 use Rattle.order.specs.declared.Operation.the-variants.{Load, Sub, Div, Cmp}
 use Rattle.order.specs.declared.Order.{Order}
 use Rattle.order.specs.declared.Order.the-variants.{Word, Number, Store, Jump, Branch, Send, Stop}
 use Rattle.order.specs.Order.{shapes}
-use Rattle.order.specs.Object.{object, reading, text, digitsOf, recordsText}
-use Rattle.order.specs.Object.{onFront, fixed, digits, numeral, withinLimits, headerAt, recordAmong, recordAt, linesAt}
+use Rattle.order.specs.Object.{object, reading, text, recordsText}
+use Rattle.order.specs.Object.{withinLimits, headerAt, recordAmong, recordAt, linesAt}
 use Rattle.order.specs.Object.{firstStop, firstOperand, stopLast, exactly}
 use Rattle.machine.specs.Machine.{machine, ran, send, run}
 

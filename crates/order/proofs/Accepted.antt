@@ -7,11 +7,12 @@ use borrow.Author.Tests.{ltb-false, eqb-true}
 use lib.Dec.{ltb, eqb}
 use lib.ListN.{length, drop-of-length-le}
 use Rattle.base.proofs.Cases.{chosen-first, chosen-second}
+use Rattle.text.specs.Pieces.{onFront}
+use Rattle.text.proofs.Fronts.{by-front}
 use Rattle.order.specs.declared.Order.{Order}
-use Rattle.order.specs.Object.{Header, Lines, object, onFront, headerText, recordsText, text, headerAt, linesAt}
+use Rattle.order.specs.Object.{Header, Lines, object, headerText, recordsText, text, headerAt, linesAt}
 use Rattle.order.specs.Object.{firstStop, stopLast, exactly, reading, linesOf}
 use Rattle.order.specs.Good.{Good}
-use Rattle.order.proofs.Fronts.{by-front}
 use Rattle.order.proofs.HeaderText.{Within, again-header}
 use Rattle.order.proofs.RecordLines.{Read, again-lines}
 use Rattle.order.proofs.ObjectChecks.{not-object, operands-good, last-stops}

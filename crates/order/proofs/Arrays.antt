@@ -1,4 +1,4 @@
--- The arrays that `read` fills hold the orders that it read: written from there, they give the text back.
+-- The arrays that `read` fills hold the orders that it read.
 use Prim.Native.Nat.{ℕ, suc, _+_, _<_, _≤_}
 use mathlib.Core.Path.{_≡_, refl, sym, ap, ap₂, _∙_}
 use mathlib.Core.List.{List, [], _∷_, map}
@@ -10,9 +10,7 @@ use Rattle.base.proofs.Lists.{getD-sets}
 use Rattle.order.specs.declared.Order.{Order}
 use Rattle.order.specs.declared.Order.the-variants.{Stop}
 use Rattle.order.specs.Order.{number, operand, orderOf, ordersFrom}
-use Rattle.order.specs.Object.{object, text, reading, linesOf}
 use Rattle.order.proofs.Numbers.{order-again}
-use Rattle.order.proofs.RoundTrip.{text-read, lines-read}
 
 -- an array holds what f gives of each order, from place k on
 abbrev Held : (Order → ℕ) → List Order → ℕ → List ℕ → Type 0
@@ -37,13 +35,6 @@ filled-held f zero-stop os l room j less =
     ∙ ap (λ d. getD (map f os) j d) (sym zero-stop)
     ∙ List·getD-map f os j Stop
 
-module _ (os : List Order) (ks vs : List ℕ) (room : length os ≤ length ks) (room-too : length os ≤ length vs) where
-  pub arrays-hold : ordersFrom 0 (length os) (sets ks 0 (map number os)) (sets vs 0 (map operand os)) ≡ os
-  arrays-hold = orders-held os 0 _ _ (filled-held number refl os ks room) (filled-held operand refl os vs room-too)
-
-  -- what was read is written as it was
-  pub write-again :
-      (l : List ℕ) (v t : ℕ)
-      → reading l ≡ object v t os
-      → text v t (ordersFrom 0 (length os) (sets ks 0 (map number (linesOf l))) (sets vs 0 (map operand (linesOf l)))) ≡ l
-  write-again l v t e = rw (lines-read l v t os e, arrays-hold) (text-read l v t os e)
+pub arrays-hold : (os : List Order) (ks vs : List ℕ) → length os ≤ length ks → length os ≤ length vs
+    → ordersFrom 0 (length os) (sets ks 0 (map number os)) (sets vs 0 (map operand os)) ≡ os
+arrays-hold os ks vs room room-too = orders-held os 0 _ _ (filled-held number refl os ks room) (filled-held operand refl os vs room-too)

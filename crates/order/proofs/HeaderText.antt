@@ -9,10 +9,10 @@ use lib.Dec.{ltb}
 use Rattle.base.specs.Choice.{pick}
 use Rattle.base.specs.Text.{bytes}
 use Rattle.base.proofs.Cases.{chosen-second}
-use Rattle.order.specs.Object.{Header, found, onFront, decimal, headerText, fixed, numeral, withinLimits, headerAt}
-use Rattle.order.proofs.Fronts.{let-through, both-found}
-use Rattle.order.proofs.Decimal.{numeral-decimal, decimal-numeral}
-use Rattle.order.proofs.Records.{fixed-front, front-fixed}
+use Rattle.text.specs.Pieces.{found, onFront, decimal, fixed, numeral}
+use Rattle.text.proofs.Fronts.{let-through, both-found, fixed-front, front-fixed}
+use Rattle.text.proofs.Decimal.{numeral-decimal, decimal-numeral}
+use Rattle.order.specs.Object.{Header, headerText, withinLimits, headerAt}
 
 -- 64 variables, 32 temporaries, 1 to 1,024 orders
 pub record Within (v t n : ℕ) : Type 0 where

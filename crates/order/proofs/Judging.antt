@@ -9,11 +9,12 @@ use lib.Dec.{ltb, eqb}
 use lib.ListN.{length, drop, length-drop}
 use Rattle.base.specs.Choice.{pick}
 use Rattle.base.proofs.Cases.{by-test, by-less}
+use Rattle.text.specs.Pieces.{found, missing, onFront}
 use Rattle.order.specs.declared.Order.{Order}
 use Rattle.order.specs.declared.object.Scan.{Scan}
 use Rattle.order.specs.declared.object.Trouble.{Trouble}
 use Rattle.order.specs.declared.object.Trouble.the-variants.{Free, Word as BadWord, Address as BadAddress}
-use Rattle.order.specs.Object.{found, missing, onFront, Header, headerAt, Lines, linesAt, Reading, object, refused}
+use Rattle.order.specs.Object.{Header, headerAt, Lines, linesAt, Reading, object, refused}
 use Rattle.order.specs.Object.{firstOperand, firstStop, stopLast, exactly, reading, linesOf}
 use Rattle.order.specs.Answers.{good, refusal, verdictOf}
 use Rattle.order.specs.Internal.{troubled, ScanOf, stopVerdict, troubleVerdict, scanVerdict}

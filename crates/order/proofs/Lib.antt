@@ -3,8 +3,6 @@ pub mod Numbering
 pub mod Scanning
 pub mod Judging
 pub mod Numbers
-pub mod Fronts
-pub mod Decimal
 pub mod Records
 pub mod HeaderText
 pub mod RecordLines
@@ -12,5 +10,4 @@ pub mod ObjectChecks
 pub mod Accepted
 pub mod RoundTrip
 pub mod Refusals
-pub mod Writing
 pub mod Arrays

@@ -6,11 +6,12 @@ use mathlib.Core.List.{List, [], _∷_, _++_, append-assoc}
 use native.Mathlib.Omega.{arith}
 use lib.ListN.{length, getD}
 use Rattle.base.proofs.Lists.{each-cons}
+use Rattle.text.specs.Pieces.{onFront}
+use Rattle.text.proofs.Fronts.{by-front}
 use Rattle.order.specs.declared.Order.{Order}
 use Rattle.order.specs.declared.Order.the-variants.{Stop}
 use Rattle.order.specs.Order.{operand}
-use Rattle.order.specs.Object.{Lines, onFront, recordText, recordsText, recordAt, linesAt}
-use Rattle.order.proofs.Fronts.{by-front}
+use Rattle.order.specs.Object.{Lines, recordText, recordsText, recordAt, linesAt}
 use Rattle.order.proofs.Records.{record-again, again-record}
 
 pub lines-again : (os : List Order) → ((k : ℕ) → k < length os → operand (getD os k Stop) ≤ 2147483647)

@@ -1,6 +1,6 @@
 -- Records and their orders: the record of an order is read as that order, and no other line is.
 use Prim.Native.Nat.{ℕ, _≤_}
-use mathlib.Core.Path.{_≡_, refl, sym, ap, ap₂, _∙_}
+use mathlib.Core.Path.{_≡_, refl, sym, ap, _∙_}
 use mathlib.Core.List.{List, [], _∷_, _++_, map, append-assoc}
 use native.Mathlib.Omega.{arith}
 use borrow.Author.Tests.{eq-eqb, eqb-true}
@@ -9,28 +9,14 @@ use lib.ListN.{getD}
 use Rattle.base.specs.Choice.{pick}
 use Rattle.base.specs.Text.{bytes}
 use Rattle.base.proofs.Lists.{map-at}
+use Rattle.text.specs.Pieces.{Front, found, missing, onFront, decimal, fixed, numeral}
+use Rattle.text.proofs.Fronts.{never, let-through, both-found, by-front, front-fixed}
+use Rattle.text.proofs.Decimal.{numeral-decimal, decimal-numeral}
 use Rattle.order.specs.declared.Order.{Order}
 use Rattle.order.specs.declared.Order.the-variants.{Stop}
 use Rattle.order.specs.Order.{operand, number, shapes, orderOf}
-use Rattle.order.specs.Object.{Front, found, missing, onFront, decimal, heading, recordText, fixed, numeral, recordAmong, recordAt}
-use Rattle.order.proofs.Fronts.{never, let-through, both-found, by-front}
-use Rattle.order.proofs.Decimal.{numeral-decimal, decimal-numeral}
+use Rattle.order.specs.Object.{heading, recordText, recordAmong, recordAt}
 use Rattle.order.proofs.Numbers.{order-again}
-
--- ---- a fixed string
-
-pub fixed-front : (cs rest : List ℕ) → fixed cs (cs ++ rest) ≡ found [] rest
-unfolding fixed pick
-fixed-front [] rest = refl
-fixed-front (c ∷ cs) rest = rw (eq-eqb c c refl) (fixed-front cs rest)
-
-pub front-fixed : (cs l rest x : List ℕ) → fixed cs l ≡ found x rest → l ≡ cs ++ rest
-unfolding fixed
-front-fixed [] l rest x e = cc
-front-fixed (c ∷ cs) [] rest x e = never e
-front-fixed (c ∷ cs) (b ∷ l) rest x e =
-    let matched = let-through (eqb b c) _ e in
-    ap₂ _∷_ (eqb-true b c (matched .0)) (front-fixed cs l rest x (matched .1))
 
 -- ---- the table of shapes
 

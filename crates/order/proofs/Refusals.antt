@@ -8,11 +8,12 @@ use lib.Dec.{ltb, eqb}
 use lib.ListN.{length}
 use Rattle.base.specs.Choice.{pick}
 use Rattle.base.proofs.Cases.{either-part}
+use Rattle.text.specs.Pieces.{onFront}
+use Rattle.text.proofs.Fronts.{by-front}
 use Rattle.order.specs.declared.Order.{Order}
 use Rattle.order.specs.declared.Order.the-variants.{Word, Number, Store, Neg, Not, Jump, Branch, Send, Stop}
-use Rattle.order.specs.Object.{Header, Lines, Reading, object, refused, onFront, headerAt, linesAt}
+use Rattle.order.specs.Object.{Header, Lines, Reading, object, refused, headerAt, linesAt}
 use Rattle.order.specs.Object.{operandRefusal, firstStop, firstOperand, stopLast, exactly, reading}
-use Rattle.order.proofs.Fronts.{by-front}
 use Rattle.order.proofs.HeaderText.{Within, again-header}
 use Rattle.order.proofs.RecordLines.{Read, again-lines}
 

@@ -4,8 +4,9 @@ use Prim.Native.Nat.{ℕ}
 use mathlib.Core.Path.{_≡_, sym, _∙_}
 use mathlib.Core.List.{List}
 use lib.ListN.{length}
+use Rattle.text.specs.Pieces.{onFront}
 use Rattle.order.specs.declared.Order.{Order}
-use Rattle.order.specs.Object.{object, onFront, recordsText, text, reading, linesOf}
+use Rattle.order.specs.Object.{object, recordsText, text, reading, linesOf}
 use Rattle.order.specs.Good.{Good}
 use Rattle.order.proofs.HeaderText.{Within, header-again}
 use Rattle.order.proofs.RecordLines.{lines-again}

@@ -13,13 +13,14 @@ use lib.Seq.{sets, append-snoc, length-sets}
 use Rattle.base.specs.Choice.{pick}
 use Rattle.base.proofs.Cases.{by-test}
 use Rattle.base.proofs.Lists.{sets-more}
+use Rattle.text.specs.Pieces.{found, missing, onFront}
 use Rattle.order.specs.declared.Order.{Order}
 use Rattle.order.specs.declared.Order.the-variants.{Word, Number, Store, Neg, Not, Jump, Branch, Send, Stop}
 use Rattle.order.specs.declared.object.Scan.{Scan}
 use Rattle.order.specs.declared.object.Trouble.{Trouble}
 use Rattle.order.specs.declared.object.Trouble.the-variants.{Free, Word as BadWord, Address as BadAddress}
 use Rattle.order.specs.Order.{number, operand}
-use Rattle.order.specs.Object.{withinLimits, found, missing, onFront, recordAt, Lines, linesAt, Reading, refused}
+use Rattle.order.specs.Object.{withinLimits, recordAt, Lines, linesAt, Reading, refused}
 use Rattle.order.specs.Object.{operandRefusal, isStop, firstOperand, firstStop}
 use Rattle.order.specs.Internal.{wordTrouble, addressTrouble, troubleOf, firstTrouble, troubled, nextStop, notedScan, ScanOf}
 

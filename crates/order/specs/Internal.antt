@@ -1,10 +1,11 @@
 -- What the answers of the private functions stand for, and what their loops do. A reader of the promises needs none of it.
 use Prim.Native.Nat.{ℕ, _+_, _-_, _<_, _≤_}
 use mathlib.Core.Path.{_≡_}
-use mathlib.Core.List.{List, [], _∷_}
+use mathlib.Core.List.{List}
 use lib.Dec.{ltb, eqb}
-use lib.ListN.{length, getD, take, drop, set}
+use lib.ListN.{length, getD, take, drop}
 use Rattle.base.specs.Choice.{pick}
+use Rattle.text.specs.Pieces.{Front, found, missing, onFront, fixed, numeral}
 use Rattle.order.specs.declared.Order.{Order}
 use Rattle.order.specs.declared.Order.the-variants.{Word, Number as OnNumber, Store, Neg, Not, Jump, Branch, Send, Stop}
 use Rattle.order.specs.declared.object.Head.{Head}
@@ -14,23 +15,10 @@ use Rattle.order.specs.declared.object.Trouble.{Trouble}
 use Rattle.order.specs.declared.object.Trouble.the-variants.{Free, Word as BadWord, Address as BadAddress}
 use Rattle.order.specs.declared.record.Record.{Record}
 use Rattle.order.specs.declared.record.Record.the-variants.{Found, Missing as NoRecord}
-use Rattle.order.specs.declared.text.Place.{Place}
-use Rattle.order.specs.declared.text.Place.the-variants.{Behind, Missing}
-use Rattle.order.specs.declared.text.Numeral.{Numeral}
-use Rattle.order.specs.declared.text.Numeral.the-variants.{Number, Missing as NoNumber}
 use Rattle.order.specs.Limits.{mostVariables, mostTemporaries, mostOrders}
 use Rattle.order.specs.Order.{operand, shapes, orderOf}
-use Rattle.order.specs.Object.{Front, found, missing, onFront, fixed, numeral, heading, Header, Lines, Reading, refused, firstOperand, firstStop, isStop}
+use Rattle.order.specs.Object.{heading, Header, Lines, Reading, refused, firstOperand, firstStop, isStop}
 use Rattle.order.specs.Answers.{Verdict, good, refusal}
-
--- a place in the text s is the text behind it
-abbrev pub behind : List ℕ → Place → Front (List ℕ)
-behind s (Behind i) = found [] (drop i s)
-behind s Missing = missing
-
-abbrev pub numberFound : List ℕ → Numeral → Front ℕ
-numberFound s (Number v i) = found v (drop i s)
-numberFound s NoNumber = missing
 
 -- the orders with a number below 12
 unfoldable pub plainOrder : ℕ → ℕ → Order
@@ -121,18 +109,3 @@ scanVerdict scan len v t n =
     (ltb (scan .count) n)
     (refusal 22 (scan .count))
     (pick (ltb (scan .at) len) (refusal 22 n) (troubleVerdict (scan .trouble) (stopVerdict (scan .stop) v t n)))
-
--- ---- writing
-
--- a place in a buffer, and the buffer
-pub data Placed : Type 0 where
-  placed : ℕ → List ℕ → Placed
-
--- a byte put at the place, and the place behind it; nothing where the buffer has ended
-abbrev pub putByte : ℕ → Placed → Placed
-putByte b (placed i l) = pick (ltb i (length l)) (placed (i + 1) (set l i b)) (placed i l)
-
--- bytes, one after the other
-unfoldable pub putAll : List ℕ → Placed → Placed
-putAll [] p = p
-putAll (b ∷ bs) p = putAll bs (putByte b p)

@@ -1,27 +1,19 @@
 -- The text of an object and its reading, document 01 ("Object text, house form", rows 21 to 25). Texts are lists of bytes:
--- 9 is the tab, 10 the newline, 48 to 57 are the digits. Comments in quotes are document 01's words.
-use Prim.Native.Nat.{ℕ, zero, suc, _+_, _-_, _*_, _/_, _%_, min}
+-- 9 is the tab, 10 the newline. Comments in quotes are document 01's words.
+use Prim.Native.Nat.{ℕ, zero, suc, _+_, _-_, min}
 use mathlib.Core.Bool.{Bool, true, false}
 use mathlib.Core.List.{List, [], _∷_, _++_}
 use lib.Dec.{ltb, eqb}
 use lib.ListN.{length}
 use Rattle.base.specs.Choice.{pick}
 use Rattle.base.specs.Text.{bytes}
+use Rattle.text.specs.Pieces.{decimal, Front, found, missing, onFront, fixed, numeral}
 use Rattle.order.specs.declared.Order.{Order}
 use Rattle.order.specs.declared.Order.the-variants.{Word, Number, Store, Neg, Not, Jump, Branch, Send, Stop}
 use Rattle.order.specs.Limits.{mostVariables, mostTemporaries, mostOrders}
 use Rattle.order.specs.Order.{name, kind, operand, shapes}
 
 -- ---- the text of an object
-
--- the last digits of n, at most k of them
-unfoldable pub digitsOf : ℕ → ℕ → List ℕ
-digitsOf zero n = []
-digitsOf (suc k) n = pick (ltb n 10) ((n + 48) ∷ []) (digitsOf k (n / 10) ++ ((n % 10 + 48) ∷ []))
-
--- "Numbers are decimal": ten digits hold every number below 2 to the 32
-abbrev pub decimal : ℕ → List ℕ
-decimal n = digitsOf 10 n
 
 -- "fields parted by tabs": a record's name and kind, each with the tab behind it
 abbrev pub heading : Order → List ℕ
@@ -41,45 +33,6 @@ headerText v t n = bytes "BOX\t" ++ decimal v ++ 9 ∷ decimal t ++ 9 ∷ decima
 
 unfoldable pub text : ℕ → ℕ → List Order → List ℕ
 text v t os = headerText v t (length os) ++ recordsText os
-
--- ---- reading at the front of a text
-
--- what stands at the front of a text, and the text behind it; or nothing of the form looked for
-pub data Front (A : Type 0) : Type 0 where
-  found : A → List ℕ → Front A
-  missing : Front A
-
--- what comes of each of the two
-unfoldable pub onFront : {A B : Type 0} → Front A → (A → List ℕ → B) → B → B
-onFront (found a rest) f b = f a rest
-onFront missing f b = b
-
--- a fixed string
-unfoldable pub fixed : List ℕ → List ℕ → Front (List ℕ)
-fixed [] l = found [] l
-fixed (c ∷ cs) [] = missing
-fixed (c ∷ cs) (b ∷ l) = pick (eqb b c) (fixed cs l) missing
-
--- the digits of a number behind those that make v, and the byte that closes its field.
--- "0 to 2147483647, no needless zero": so no digit follows a leading 0
-unfoldable pub digits : ℕ → ℕ → List ℕ → Front ℕ
-digits close v [] = missing
-digits close v (b ∷ l) =
-    pick
-    (eqb b close)
-    (found v l)
-    (pick
-    (ltb b 48)
-    missing
-    (pick
-    (ltb 57 b)
-    missing
-    (pick (eqb v 0) missing (pick (ltb 2147483647 (v * 10 + (b - 48))) missing (digits close (v * 10 + (b - 48)) l)))))
-
--- a number and the byte that closes its field
-unfoldable pub numeral : ℕ → List ℕ → Front ℕ
-numeral close [] = missing
-numeral close (b ∷ l) = pick (ltb b 48) missing (pick (ltb 57 b) missing (digits close (b - 48) l))
 
 -- ---- the header
 

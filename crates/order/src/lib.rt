@@ -2,8 +2,6 @@
 pub mod number;
 pub mod object;
 mod record;
-mod text;
-pub mod write;
 
 use word::Relation;
 

@@ -2,15 +2,16 @@
 use crate::Order;
 use crate::number::operand_of;
 use crate::number::order_of;
-use crate::text::Numeral;
-use crate::text::Place;
-use crate::text::fixed_at;
-use crate::text::numeral_at;
+use text::read::Numeral;
+use text::read::Place;
+use text::read::fixed_at;
+use text::read::numeral_at;
 ghost use mathlib.Core.Path.{_≡_};
 ghost use Prim.Native.Nat.{_+_};
 ghost use lib.ListN.{drop};
 ghost use Rattle.order.specs.Object.{recordAt};
-ghost use Rattle.order.specs.Internal.{behind, orderFound, headingAt, numberAfter};
+ghost use Rattle.text.specs.Internal.{behind};
+ghost use Rattle.order.specs.Internal.{orderFound, headingAt, numberAfter};
 
 // An order and the place behind its record, or that no record stands there.
 pub(crate) enum Record {

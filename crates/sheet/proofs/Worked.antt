@@ -7,7 +7,8 @@ use Rattle.base.specs.Choice.{pick}
 use Rattle.base.specs.Text.{bytes}
 use Rattle.word.specs.declared.Relation.the-variants.{Greater}
 use Rattle.word.specs.Word.{wrap, signed, word as pattern, difference, quotient, comparison}
-use Rattle.order.specs.Object.{text, digitsOf, recordsText}
+use Rattle.text.specs.Pieces.{digitsOf}
+use Rattle.order.specs.Object.{text, recordsText}
 use Rattle.machine.specs.Machine.{machine, ran, send as sends, run}
 use Rattle.machine.proofs.Worked.{worked}
 use Rattle.sheet.specs.declared.Operator.the-variants.{Minus, Over}

@@ -7,8 +7,9 @@ use Rattle.base.specs.Choice.{pick}
 use Rattle.base.specs.Text.{bytes}
 use Rattle.base.proofs.Lists.{getD-repeated}
 use Rattle.word.specs.Word.{wrap, signed, word, difference, quotient, comparison}
+use Rattle.text.specs.Pieces.{onFront, fixed, digits, numeral}
 use Rattle.order.specs.Order.{shapes}
-use Rattle.order.specs.Object.{onFront, fixed, digits, numeral, withinLimits, headerAt, recordAmong, recordAt, linesAt}
+use Rattle.order.specs.Object.{withinLimits, headerAt, recordAmong, recordAt, linesAt}
 use Rattle.order.specs.Object.{firstStop, firstOperand, stopLast, exactly, reading}
 use Rattle.machine.specs.Machine.{send, run}
 use Rattle.machine.proofs.Worked.{worked}

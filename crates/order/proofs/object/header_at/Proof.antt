@@ -1,7 +1,8 @@
 use mathlib.Core.Path.{refl, sym, _∙_}
 use Rattle.base.specs.Text.{bytes}
 use Rattle.base.proofs.Cases.{cases}
-use Rattle.order.specs.Object.{onFront, headerAt}
+use Rattle.text.specs.Pieces.{onFront}
+use Rattle.order.specs.Object.{headerAt}
 use Rattle.order.proofs.Scanning.{bounded}
 use borrow.Author.Needs.{needs}
 use Rattle.order.proofs.object.header_at.Statement.{statement}

@@ -1,7 +1,7 @@
 use mathlib.Core.Path.{refl}
 use Rattle.base.proofs.Cases.{cases}
-use Rattle.order.specs.Object.{onFront}
 use borrow.Author.Needs.{needs}
+use Rattle.text.specs.Pieces.{onFront}
 use Rattle.order.proofs.record.number_after.Statement.{statement}
 use Rattle.order.proofs.record.number_after.Tie as tie
 

@@ -3,8 +3,9 @@ use borrow.Author.Needs.{needs}
 use mathlib.Core.Path.{_≡_, refl}
 use native.Mathlib.Omega.{arith}
 use lib.ListN.{drop}
+use Rattle.text.specs.Pieces.{onFront}
 use Rattle.order.specs.Order.{shapes}
-use Rattle.order.specs.Object.{onFront, recordAmong, recordAt}
+use Rattle.order.specs.Object.{recordAmong, recordAt}
 use Rattle.order.proofs.Turns.{among-turn, among-over}
 use Rattle.order.proofs.record.record_at.Statement.{statement}
 use Rattle.order.proofs.record.record_at.Tie as tie

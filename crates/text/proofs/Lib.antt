@@ -1,0 +1,4 @@
+pub mod Fronts
+pub mod Decimal
+pub mod Turns
+pub mod Writing
