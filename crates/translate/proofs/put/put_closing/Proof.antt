@@ -1,0 +1,22 @@
+use Prim.Native.Nat.{_+_}
+use mathlib.Core.Path.{ap, _∙_}
+use native.Mathlib.Omega.{arith}
+use Rattle.order.specs.declared.Operation.the-variants.{Load}
+use Rattle.order.specs.declared.Order.the-variants.{Word}
+use Rattle.translate.specs.Internal.{putOrder}
+use borrow.Author.Needs.{needs}
+use Rattle.translate.proofs.put.put_closing.Statement.{statement}
+use Rattle.translate.proofs.put.put_closing.Tie as tie
+
+returns : tie.Need-returns
+returns c =
+    let x = c .before .before .before .before .before .before .before .before .before .before .before .before .before .before .before .before .before .before .before .before .before .before .before .args in
+    let a = c .before .before .before .before .before .before .before .before .before .before .before .before .before .before .before .before .before .before .put-order .ensures in
+    let b = c .before .before .before .before .before .before .before .before .before .before .before .put-order2 .ensures in
+    let d = c .before .before .before .before .put-order3 .ensures in (
+      omega (arith, a .0, b .0, d .0),
+      d .1 ∙ ap (putOrder (Word (x .f) (x .word + 1))) (b .1 ∙ ap (putOrder (Word Load (x .word))) (a .1)),
+    )
+
+pub put-closing-spec : {M : Type 1} → statement M
+put-closing-spec = tie.close (tie.spec (λ c. search needs) (λ c κs. search needs) (λ c κs. search needs) (λ c. search needs) (λ c κs. search needs) (λ c. search needs) (λ c. search needs) returns)

@@ -1,0 +1,54 @@
+// The translation of a sheet, document 01 ("Translation"): from its fields in two arrays to its orders in two arrays.
+mod node;
+mod put;
+pub mod size;
+
+use crate::put::put_all;
+use crate::size::total_size;
+use order::MOST_ORDERS;
+use order::MOST_TEMPORARIES;
+use order::MOST_VARIABLES;
+ghost use mathlib.Core.Path.{_≡_};
+ghost use Rattle.order.specs.Order.{number, operand};
+ghost use Rattle.translate.specs.Answers.{OfSheet, translated, answerFor, filledFor};
+
+// `mostFields` of specs/Limits.antt.
+const MOST_FIELDS: usize = 2048;
+
+// T and N of a sheet's translation, or that a limit is passed.
+pub enum Translated {
+    Whole(u32, u32),
+    Over,
+}
+
+// Translates the sheet with V variables whose fields are the first n of two arrays. The sizes of its instructions come first:
+// a GOTO can lead forward, and a sheet over a limit leaves both arrays as they were.
+pub fn translate(
+    kinds: &[u8],
+    values: &[u32],
+    n: usize,
+    v: u32,
+    numbers: &mut [u8],
+    operands: &mut [u32],
+) -> Translated
+    ensures answered { λ r. ⌜ OfSheet (now (kinds .entry)) (now (values .entry)) n v (λ s. translated r ≡ answerFor s) ⌝ }
+    ensures numbered { λ _. ⌜ OfSheet (now (kinds .entry)) (now (values .entry)) n v (λ s. now (numbers .exit) ≡ filledFor s number (now (numbers .entry))) ⌝ }
+    ensures ordered { λ _. ⌜ OfSheet (now (kinds .entry)) (now (values .entry)) n v (λ s. now (operands .exit) ≡ filledFor s operand (now (operands .entry))) ⌝ }
+{
+    if MOST_FIELDS < n {
+        return Translated::Over;
+    }
+    if MOST_VARIABLES < v {
+        return Translated::Over;
+    }
+    let mut firsts = [0u32; 1025];
+    let total = total_size(kinds, values, n, &mut firsts);
+    if MOST_TEMPORARIES < total.temporaries {
+        return Translated::Over;
+    }
+    if MOST_ORDERS <= total.orders {
+        return Translated::Over;
+    }
+    put_all(kinds, values, n, v + 2, &firsts, numbers, operands);
+    Translated::Whole(total.temporaries, total.orders + 1)
+}
