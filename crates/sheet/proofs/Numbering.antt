@@ -9,7 +9,7 @@ use Rattle.base.proofs.Lists.{getD-map-inside}
 use Rattle.word.specs.declared.Relation.the-variants.{AtLeast}
 use Rattle.sheet.specs.declared.Operator.the-variants.{Unlike}
 use Rattle.sheet.specs.declared.Field.the-variants.{Else, Not, Binary, If, Goto}
-use Rattle.sheet.specs.Fields.{operators, relations, bareFields, numberedFields, shapes, fieldOf}
+use Rattle.sheet.specs.Memory.{operators, relations, bareFields, numberedFields, shapes, fieldOf}
 
 -- the last of a list stands for every place behind it
 pub last-of : {A : Type 0} (xs : List A) (a : A) (k : ℕ) → length xs ≤ k → a ≡ getD (xs ++ a ∷ []) k a

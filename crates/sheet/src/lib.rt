@@ -3,6 +3,9 @@ pub mod number;
 
 use word::Relation;
 
+// `mostFields` of specs/Memory.antt.
+pub const MOST_FIELDS: usize = 2048;
+
 // The operators that stand between two operands, in the source + - * / ** << >> & ! !!
 pub enum Operator {
     Plus,

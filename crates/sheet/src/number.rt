@@ -1,4 +1,4 @@
-// The number of a field in memory, and back: `kind` and `fieldOf` of specs/Fields.antt.
+// The number of a field in memory, and back: `kind` and `fieldOf` of specs/Memory.antt.
 use crate::Field;
 use crate::Operator;
 use order::Operation;
@@ -6,7 +6,7 @@ use word::Relation;
 ghost use mathlib.Core.Path.{_≡_};
 ghost use Prim.Native.Nat.{_<_};
 ghost use lib.ListN.{getD};
-ghost use Rattle.sheet.specs.Fields.{operatorNumber, relationNumber, kind, carried, operators, relations, bareFields, numberedFields, fieldOf};
+ghost use Rattle.sheet.specs.Memory.{operatorNumber, relationNumber, kind, carried, operators, relations, bareFields, numberedFields, fieldOf};
 ghost use Rattle.sheet.specs.Translation.{operation, opposite};
 ghost use Rattle.sheet.specs.declared.Operator.the-variants.{Unlike};
 ghost use Rattle.sheet.specs.declared.Field.the-variants.{Not, Goto};

@@ -8,11 +8,12 @@ use lib.ListN.{length}
 use Rattle.base.specs.Choice.{pick}
 use Rattle.word.specs.declared.Relation.{Relation}
 use Rattle.sheet.specs.declared.Field.{Field}
-use Rattle.sheet.specs.declared.Field.the-variants.{Else, Then, Send, Neg, Not, Binary, If, Word, Constant, Set, Goto}
+use Rattle.sheet.specs.declared.Field.the-variants.{Else, Then, Send, Neg, Not, Binary, If, Word, Constant, Set}
 use Rattle.sheet.specs.Sheet.{Expression, word, constant, negated, inverted, binary, Simple, set, send, goto}
 use Rattle.sheet.specs.Sheet.{Instruction, simple, when, either, Sheet, sheet, variables, instructions}
 use Rattle.sheet.specs.Fields.{expressionFields, simpleFields, instructionFields, fieldsOfAll, sheetFields}
-use Rattle.sheet.specs.Fields.{fieldText, lineRest, line, lines, sheetText, fieldsFrom}
+use Rattle.sheet.specs.Fields.{fieldText, lineRest, line, lines, sheetText}
+use Rattle.sheet.specs.Memory.{fieldsFrom}
 use Rattle.sheet_text.specs.Answers.{InMemory}
 use Rattle.sheet_text.specs.Internal.{begins, opens, fieldsText, headerText, flatText}
 
@@ -30,7 +31,8 @@ tabbed-append (x ∷ xs) ys l = ap (λ r. 9 ∷ fieldText x ++ r) (tabbed-append
 line-rest : (fs : List Field) (l : List ℕ) → lineRest fs ++ l ≡ tabbed fs (10 ∷ l)
 unfolding lineRest tabbed
 line-rest [] l = refl
-line-rest (f ∷ fs) l = ap (λ r. 9 ∷ r) (append-assoc (fieldText f) (lineRest fs) l ∙ ap (λ r. fieldText f ++ r) (line-rest fs l))
+line-rest (f ∷ fs) l =
+    ap (λ r. 9 ∷ r) (append-assoc (fieldText f) (lineRest fs) l ∙ ap (λ r. fieldText f ++ r) (line-rest fs l))
 
 -- a field that neither begins an instruction nor opens a part stands behind a tab
 node-flat : (f : Field) → begins f ≡ false → opens f ≡ false → (part : Bool) (fs : List Field)
@@ -75,11 +77,12 @@ simple-flat (send e) part fs = ap (λ t. pick part 9 10 ∷ fieldText Send ++ t)
 simple-flat (goto s) part fs = refl
 
 -- the fields of an IF, and a text behind them
-when-fields : (r : Relation) (a b : Expression) (u : Simple) (fs : List Field)
-    → instructionFields (when r a b u) ++ fs ≡ If r ∷ (expressionFields a ++ (expressionFields b ++ (Then ∷ (simpleFields u ++ fs))))
+pub when-fields : (r : Relation) (a b : Expression) (u : Simple) (fs : List Field)
+    → instructionFields (when r a b u) ++ fs
+    ≡ If r ∷ (expressionFields a ++ (expressionFields b ++ (Then ∷ (simpleFields u ++ fs))))
 when-fields r a b u fs = simp append-assoc
 
-either-fields : (r : Relation) (a b : Expression) (u w : Simple) (fs : List Field)
+pub either-fields : (r : Relation) (a b : Expression) (u w : Simple) (fs : List Field)
     → instructionFields (either r a b u w) ++ fs
     ≡ If r ∷ (expressionFields a ++ (expressionFields b ++ (Then ∷ (simpleFields u ++ (Else ∷ (simpleFields w ++ fs))))))
 either-fields r a b u w fs = simp append-assoc
@@ -94,15 +97,19 @@ condition-flat r a b fs =
     (expression-flat a false (expressionFields b ++ fs) ∙ ap (tabbed (expressionFields a)) (expression-flat b false fs))
 
 condition-tabbed : (a b : Expression) (fs : List Field) (l : List ℕ)
-    → tabbed ((expressionFields a ++ expressionFields b) ++ fs) l ≡ tabbed (expressionFields a) (tabbed (expressionFields b) (tabbed fs l))
+    → tabbed ((expressionFields a ++ expressionFields b) ++ fs) l
+    ≡ tabbed (expressionFields a) (tabbed (expressionFields b) (tabbed fs l))
 condition-tabbed a b fs l =
-    tabbed-append (expressionFields a ++ expressionFields b) fs l ∙ tabbed-append (expressionFields a) (expressionFields b) (tabbed fs l)
+    tabbed-append (expressionFields a ++ expressionFields b) fs l
+    ∙ tabbed-append (expressionFields a) (expressionFields b) (tabbed fs l)
 
 -- THEN or ELSE, and the instruction behind it
 part-flat : (f : Field) → begins f ≡ false → opens f ≡ true → (u : Simple) (fs : List Field)
     → fieldsText false (f ∷ (simpleFields u ++ fs)) ≡ 9 ∷ fieldText f ++ tabbed (simpleFields u) (fieldsText false fs)
 unfolding fieldsText pick
-part-flat f no-start opened u fs = rw (no-start, opened) (ap (λ t. 9 ∷ fieldText f ++ t) (simple-flat u true fs ∙ sym (behind-tab (simpleFields u) (fieldsText false fs))))
+part-flat f no-start opened u fs =
+    rw (no-start, opened)
+    (ap (λ t. 9 ∷ fieldText f ++ t) (simple-flat u true fs ∙ sym (behind-tab (simpleFields u) (fieldsText false fs))))
 
 instruction-flat : (i : Instruction) (fs : List Field)
     → fieldsText false (instructionFields i ++ fs) ≡ behind 10 (instructionFields i) (fieldsText false fs)
@@ -111,7 +118,8 @@ instruction-flat (simple u) fs = simple-flat u false fs
 instruction-flat (when r a b u) fs =
     ap (fieldsText false) (when-fields r a b u fs)
     ∙ condition-flat r a b (Then ∷ (simpleFields u ++ fs))
-    ∙ ap (λ t. 10 ∷ fieldText (If r) ++ tabbed (expressionFields a) (tabbed (expressionFields b) t)) (part-flat Then refl refl u fs)
+    ∙ ap (λ t. 10 ∷ fieldText (If r) ++ tabbed (expressionFields a) (tabbed (expressionFields b) t))
+    (part-flat Then refl refl u fs)
     ∙ ap (λ t. 10 ∷ fieldText (If r) ++ t) (sym (condition-tabbed a b (Then ∷ simpleFields u) (fieldsText false fs)))
 instruction-flat (either r a b u w) fs =
     ap (fieldsText false) (either-fields r a b u w fs)
@@ -121,15 +129,19 @@ instruction-flat (either r a b u w) fs =
     ∙ ap (λ t. 9 ∷ fieldText Then ++ tabbed (simpleFields u) t) (part-flat Else refl refl w fs))
     ∙ ap (λ t. 10 ∷ fieldText (If r) ++ t)
     (sym
-    (tabbed-append ((expressionFields a ++ expressionFields b) ++ (Then ∷ simpleFields u)) (Else ∷ simpleFields w) (fieldsText false fs)
+    (tabbed-append ((expressionFields a ++ expressionFields b) ++ (Then ∷ simpleFields u)) (Else ∷ simpleFields w)
+    (fieldsText false fs)
     ∙ condition-tabbed a b (Then ∷ simpleFields u) (tabbed (Else ∷ simpleFields w) (fieldsText false fs))))
 
 -- a newline and a line are its fields, the first behind that newline, and the line's own
 line-flat : (f : Field) (fs : List Field) (l : List ℕ) → behind 10 (f ∷ fs) (10 ∷ l) ≡ 10 ∷ (line (f ∷ fs) ++ l)
 unfolding line
-line-flat f fs l = ap (λ t. 10 ∷ t) (ap (λ t. fieldText f ++ t) (sym (line-rest fs l)) ∙ sym (append-assoc (fieldText f) (lineRest fs) l))
+line-flat f fs l =
+    ap (λ t. 10 ∷ t)
+    (ap (λ t. fieldText f ++ t) (sym (line-rest fs l)) ∙ sym (append-assoc (fieldText f) (lineRest fs) l))
 
-instruction-line : (i : Instruction) (l : List ℕ) → behind 10 (instructionFields i) (10 ∷ l) ≡ 10 ∷ (line (instructionFields i) ++ l)
+instruction-line : (i : Instruction) (l : List ℕ)
+    → behind 10 (instructionFields i) (10 ∷ l) ≡ 10 ∷ (line (instructionFields i) ++ l)
 instruction-line (simple (set w e)) l = line-flat _ _ l
 instruction-line (simple (send e)) l = line-flat _ _ l
 instruction-line (simple (goto s)) l = line-flat _ _ l
@@ -140,11 +152,14 @@ lines-flat : (is : List Instruction) → fieldsText false (fieldsOfAll is) ≡ 1
 unfolding fieldsOfAll lines fieldsText
 lines-flat [] = refl
 lines-flat (i ∷ is) =
-    instruction-flat i (fieldsOfAll is) ∙ ap (behind 10 (instructionFields i)) (lines-flat is) ∙ instruction-line i (lines is)
+    instruction-flat i (fieldsOfAll is)
+    ∙ ap (behind 10 (instructionFields i)) (lines-flat is)
+    ∙ instruction-line i (lines is)
 
 pub flat-sheet : (s : Sheet) → flatText (variables s) (length (instructions s)) (sheetFields s) ≡ sheetText s
 flat-sheet (sheet v is) = ap (λ t. headerText v (length is) ++ t) (lines-flat is)
 
 -- of a sheet in memory
-pub flat-memory : (s : Sheet) (ks vs : List ℕ) (n v is : ℕ) → InMemory s ks vs n v is → flatText v is (fieldsFrom 0 n ks vs) ≡ sheetText s
+pub flat-memory : (s : Sheet) (ks vs : List ℕ) (n v is : ℕ) → InMemory s ks vs n v is
+    → flatText v is (fieldsFrom 0 n ks vs) ≡ sheetText s
 flat-memory s ks vs n v is m = rw (m .fields, ← m .its-variables, ← m .its-instructions) (flat-sheet s)

@@ -11,11 +11,13 @@ use Rattle.text.specs.Pieces.{decimal}
 use Rattle.text.specs.Internal.{Placed, putByte, putAll}
 use Rattle.text.proofs.Writing.{putAll-append}
 use Rattle.sheet.specs.declared.Field.{Field}
-use Rattle.sheet.specs.Fields.{fieldText, fieldOf, fieldsFrom}
+use Rattle.sheet.specs.Fields.{fieldText}
+use Rattle.sheet.specs.Memory.{fieldOf, fieldsFrom}
 use Rattle.sheet_text.specs.Internal.{opens, separator, fieldsText, headerText, flatText}
 
 -- the header
-pub put-header-parts : (v is : ℕ) (p : Placed) → putAll (decimal is) (putByte 9 (putAll (bytes "SHEET\t" ++ decimal v) p)) ≡ putAll (headerText v is) p
+pub put-header-parts : (v is : ℕ) (p : Placed)
+    → putAll (decimal is) (putByte 9 (putAll (bytes "SHEET\t" ++ decimal v) p)) ≡ putAll (headerText v is) p
 unfolding putAll
 put-header-parts v is p = sym (simp putAll-append)
 
@@ -52,12 +54,14 @@ module _ (ks vs : List ℕ) where
   left-all : (n : ℕ) → left n 0 ≡ fieldsFrom 0 n ks vs
   left-all n = let all : n - 0 ≡ n = omega arith in rw all refl
 
-  pub put-start : (n : ℕ) (p : Placed) → putAll (fieldsText false (left n 0)) p ≡ putAll (fieldsText false (fieldsFrom 0 n ks vs)) p
+  pub put-start : (n : ℕ) (p : Placed)
+      → putAll (fieldsText false (left n 0)) p ≡ putAll (fieldsText false (fieldsFrom 0 n ks vs)) p
   put-start n p = rw (left-all n) refl
 
   -- a field f behind its separator b: p, q and r are the places before both, between them and behind them
   pub put-turn : (n i : ℕ) (f : Field) (part o : Bool) (b : ℕ) (p q r : Placed)
-      → i < n → f ≡ fieldOf (getD ks i 0) (getD vs i 0) → b ≡ separator part f → q ≡ putByte b p → r ≡ putAll (fieldText f) q → o ≡ opens f
+      → i < n → f ≡ fieldOf (getD ks i 0) (getD vs i 0) → b ≡ separator part f
+      → q ≡ putByte b p → r ≡ putAll (fieldText f) q → o ≡ opens f
       → putAll (fieldsText o (left n (i + 1))) r ≡ putAll (fieldsText part (left n i)) p
   unfolding fieldsText putAll
   put-turn n i f part o b p q r h is-field is-separator put-one put-other is-open =
@@ -70,7 +74,8 @@ module _ (ks vs : List ℕ) where
 
   -- the last newline is counted first
   pub count-start : (n v is : ℕ)
-      → length (decimal v) + length (decimal is) + 8 + length (fieldsText false (left n 0)) ≡ 1 + length (flatText v is (fieldsFrom 0 n ks vs))
+      → length (decimal v) + length (decimal is) + 8 + length (fieldsText false (left n 0))
+      ≡ 1 + length (flatText v is (fieldsFrom 0 n ks vs))
   count-start n v is =
       rw (left-all n)
       (omega (arith, header-length v is, length-append (headerText v is) (fieldsText false (fieldsFrom 0 n ks vs))))
@@ -80,7 +85,8 @@ module _ (ks vs : List ℕ) where
   unfolding fieldsText
   count-turn n i f e h =
       rw (left-more n i h, ← e)
-      (omega (arith, length-append (fieldText f) (fieldsText (opens f) (left n (i + 1))), any-part (opens f) (left n (i + 1))))
+      (let both = length-append (fieldText f) (fieldsText (opens f) (left n (i + 1))) in
+      omega (arith, both, any-part (opens f) (left n (i + 1))))
 
   pub count-over : (n i : ℕ) → n ≤ i → length (fieldsText false (left n i)) ≡ 1
   unfolding fieldsText

@@ -16,7 +16,8 @@ ghost use Rattle.base.specs.Text.{bytes};
 ghost use Rattle.text.specs.Pieces.{decimal};
 ghost use Rattle.text.specs.Buffer.{filledWith};
 ghost use Rattle.text.specs.Internal.{placed, putAll};
-ghost use Rattle.sheet.specs.Fields.{operatorText, relationText, fieldText, fieldsFrom};
+ghost use Rattle.sheet.specs.Fields.{operatorText, relationText, fieldText};
+ghost use Rattle.sheet.specs.Memory.{fieldsFrom};
 ghost use Rattle.sheet_text.specs.Answers.{ForText, written, replyFor};
 ghost use Rattle.sheet_text.specs.Internal.{begins, opens, separator, headerText, fieldsText, flatText};
 

@@ -1,6 +1,6 @@
 -- The orders of what a sheet's fields say: the mirrors put the translation's parts.
-use Prim.Native.Nat.{ℕ, zero, suc, _+_, _<_, _≤_}
-use mathlib.Core.Path.{_≡_, refl, sym, ap, ap₂, _∙_}
+use Prim.Native.Nat.{ℕ, zero, suc, _+_, _≤_}
+use mathlib.Core.Path.{_≡_, refl, sym, ap, _∙_}
 use mathlib.Core.Bool.{false}
 use mathlib.Core.List.{List, [], _∷_, _++_, map, append-assoc}
 use native.Mathlib.Omega.{arith}
@@ -17,13 +17,17 @@ use Rattle.order.specs.declared.Order.the-variants.{Word, Store, Jump, Branch, 
 use Rattle.order.specs.Order.{number, operand as operandOf}
 use Rattle.sheet.specs.declared.Field.{Field}
 use Rattle.sheet.specs.declared.Field.the-variants.{Else, Then}
-use Rattle.sheet.specs.Sheet.{Expression, word, constant, negated, inverted, binary, Simple, set, send, goto, Instruction, simple, when, either}
+use Rattle.sheet.specs.Sheet.{Expression, word, constant, negated, inverted, binary, Simple, set, send, goto, Instruction}
+use Rattle.sheet.specs.Sheet.{simple, when, either}
 use Rattle.sheet.specs.Sheet.{workedOut, operand}
 use Rattle.sheet.specs.Fields.{expressionFields, simpleFields, instructionFields}
-use Rattle.sheet.specs.Translation.{operation, temporary, joined, code, simpleCode, opposite, comparisonCode, past, choice, closed, instructionCode}
-use Rattle.translate.specs.Internal.{Placed, placed, Written, written, putOrder, putOrders, withLast, putClosing, putBoth, putRight, putAfter}
-use Rattle.translate.specs.Internal.{putOperands, putExpression, operandsPutBy, simpleBy, putBranch, putJump, putOther, elseBy, withElse, eitherBy}
-use Rattle.translate.specs.Internal.{putChosen, choiceBy, withChoice, ifBy, instructionBy, firstElse, sized, sizeSimple}
+use Rattle.sheet.specs.Translation.{operation, temporary, joined, code, simpleCode, opposite, comparisonCode, past}
+use Rattle.sheet.specs.Translation.{choice, closed, instructionCode}
+use Rattle.translate.specs.Internal.{Placed, placed, written, putOrder, putOrders, withLast}
+use Rattle.translate.specs.Internal.{putBoth, putRight, putAfter}
+use Rattle.translate.specs.Internal.{putOperands, putExpression, operandsPutBy, simpleBy, putBranch, putJump}
+use Rattle.translate.specs.Internal.{putOther, withElse}
+use Rattle.translate.specs.Internal.{putChosen, choiceBy, withChoice, ifBy, instructionBy, firstElse}
 use Rattle.translate.proofs.Measured.{some-fields, when-fields, either-fields, simple-measured}
 
 -- ---- orders one after the other
@@ -104,7 +108,11 @@ module _ (f v d : ℕ) (o : Operation) (l : Expression) (rest : List Field) (p :
       ≡ written rest (putOrders (joined o v d (operand r) (code v d l) (code v (suc d) r)) p)
   operands-coded r g h = ap (putAfter (putExpression f) o (temporary v d)) g ∙ right-coded r h
 
-pub expression-coded : (e : Expression) (l : List Field) (f v d : ℕ) → length (expressionFields e) ≤ f → (p : Placed) → Coded f v d e l p
+pub expression-coded :
+    (e : Expression) (l : List Field) (f v d : ℕ)
+    → length (expressionFields e) ≤ f
+    → (p : Placed)
+    → Coded f v d e l p
 unfolding expressionFields putExpression code putOrders
 expression-coded e l zero v d h p = absurd (omega (arith, some-fields e))
 expression-coded (word w) l (suc f) v d h p = refl
@@ -115,7 +123,8 @@ expression-coded (inverted e) l (suc f) v d h p =
     ap (withLast _) (expression-coded e l f v d (omega arith) p) ∙ ap (written l) (put-one (code v d e) _ p)
 expression-coded (binary o a b) l (suc f) v d h p =
     let fields = length-append (expressionFields a) (expressionFields b) in
-    ap (λ m. putOperands (putExpression f) (operation o) (temporary v d) m p) (append-assoc (expressionFields a) (expressionFields b) l)
+    ap (λ m. putOperands (putExpression f) (operation o) (temporary v d) m p)
+    (append-assoc (expressionFields a) (expressionFields b) l)
     ∙ operands-coded f v d (operation o) a l p b
     (expression-coded a (expressionFields b ++ l) f v d (omega arith) p)
     (expression-coded b l f v (suc d) (omega arith))
@@ -123,7 +132,10 @@ expression-coded (binary o a b) l (suc f) v d h p =
 -- ---- instructions; a GOTO leads to what the array of first orders has
 
 -- the branch and the jump, with what is put up to place a
-branch-at : (r : Relation) (o k a : ℕ) (q : Placed) → place q ≡ a → putBranch r o k q ≡ putOrder (Branch (opposite r) (a + o + k)) q
+branch-at :
+    (r : Relation) (o k a : ℕ) (q : Placed)
+    → place q ≡ a
+    → putBranch r o k q ≡ putOrder (Branch (opposite r) (a + o + k)) q
 branch-at r o k a (placed i ns vs) e = ap (λ b. putOrder (Branch (opposite r) (b + o + k)) (placed i ns vs)) e
 
 jump-at : (o a : ℕ) (q : Placed) → place q ≡ a → putJump o q ≡ putOrder (Jump (a + o + 1)) q
@@ -142,7 +154,8 @@ module _ (firsts : List ℕ) (f v : ℕ) where
       → simpleBy firsts base f (simpleFields u ++ l) p ≡ written l (putOrders (simpleCode v to u) p)
   unfolding putOrders
   simple-coded (set w e) l p h =
-      ap (withLast (Store w)) (expression-coded e l f v 0 (omega arith) p) ∙ ap (written l) (put-one (code v 0 e) (Store w) p)
+      ap (withLast (Store w)) (expression-coded e l f v 0 (omega arith) p) ∙ ap (written l)
+      (put-one (code v 0 e) (Store w) p)
   simple-coded (send e) l p h =
       ap (withLast Send) (expression-coded e l f v 0 (omega arith) p) ∙ ap (written l) (put-one (code v 0 e) Send p)
   simple-coded (goto s) l p h = refl
@@ -151,11 +164,14 @@ module _ (firsts : List ℕ) (f v : ℕ) where
       (a b : Expression) (l : List Field) (p : Placed)
       → length (expressionFields a) ≤ f
       → length (expressionFields b) ≤ f
-      → operandsPutBy Cmp base f (expressionFields a ++ (expressionFields b ++ l)) p ≡ written l (putOrders (comparisonCode v a b) p)
+      → operandsPutBy Cmp base f (expressionFields a ++ (expressionFields b ++ l)) p
+      ≡ written l (putOrders (comparisonCode v a b) p)
   comparison-coded a b l p g h =
-      operands-coded f v 0 Cmp a l p b (expression-coded a (expressionFields b ++ l) f v 0 g p) (expression-coded b l f v 1 h)
+      operands-coded f v 0 Cmp a l p b (expression-coded a (expressionFields b ++ l) f v 0 g p)
+      (expression-coded b l f v 1 h)
 
-  module _ (r : Relation) (u : Simple) (l : List Field) (p : Placed) (a : ℕ) (at-a : place p ≡ a) (h : length (simpleFields u) ≤ f) where
+  module _ (r : Relation) (u : Simple) (l : List Field) (p : Placed) (a : ℕ) (at-a : place p ≡ a)
+      (h : length (simpleFields u) ≤ f) where
     -- the branch past the instruction behind THEN
     when-coded :
         firstElse l ≡ false
@@ -166,7 +182,8 @@ module _ (firsts : List ℕ) (f v : ℕ) where
         let address : a + length us + 1 ≡ past a us = omega arith in
         ap (λ z. putChosen firsts base r f z (simpleFields u ++ l) p) (simple-measured f v l u to h)
         ∙ sym (pick-no _ _ _ _ no-else refl)
-        ∙ ap (simpleBy firsts base f (simpleFields u ++ l)) (branch-at r (length us) 1 a p at-a ∙ ap (λ b. putOrder (Branch (opposite r) b) p) address)
+        ∙ ap (simpleBy firsts base f (simpleFields u ++ l))
+        (branch-at r (length us) 1 a p at-a ∙ ap (λ b. putOrder (Branch (opposite r) b) p) address)
         ∙ simple-coded u l _ h
 
     -- and past the jump over the other one
@@ -186,7 +203,8 @@ module _ (firsts : List ℕ) (f v : ℕ) where
         let first = putOrder (Branch (opposite r) (past a (us ++ jump ∷ []))) p in
         let there : place (putOrders us first) ≡ a + 1 + length us =
         put-place us first ∙ ap (λ k. k + length us) (place-one _ p ∙ ap (λ k. k + 1) at-a) in
-        ap (λ z. putChosen firsts base r f z (simpleFields u ++ Else ∷ behind) p) (simple-measured f v (Else ∷ behind) u to h)
+        ap (λ z. putChosen firsts base r f z (simpleFields u ++ Else ∷ behind) p)
+        (simple-measured f v (Else ∷ behind) u to h)
         ∙ sym (pick-yes _ _ _ _ refl refl)
         ∙ ap
         (λ q. withElse firsts base f (simpleBy firsts base f (simpleFields u ++ Else ∷ behind) q))
@@ -195,7 +213,8 @@ module _ (firsts : List ℕ) (f v : ℕ) where
         ∙ ap (λ z. putOther firsts base f z behind (putOrders us first)) (simple-measured f v l w to g)
         ∙ ap
         (simpleBy firsts base f behind)
-        (jump-at (length ws) (a + 1 + length us) (putOrders us first) there ∙ ap (λ b. putOrder (Jump b) (putOrders us first)) over)
+        (jump-at (length ws) (a + 1 + length us) (putOrders us first) there ∙
+        ap (λ b. putOrder (Jump b) (putOrders us first)) over)
         ∙ simple-coded w l (putOrder jump (putOrders us first)) g
         ∙ ap (written l) (ap (putOrders ws) (put-one us jump first) ∙ put-append (us ++ jump ∷ []) ws first)
 

@@ -1,19 +1,19 @@
 -- The loop over the instructions that puts their orders.
 use Prim.Native.Nat.{ℕ, _+_, _*_, _<_, _≤_}
-use mathlib.Core.Path.{_≡_, refl, sym, ap, ap₂, _∙_}
+use mathlib.Core.Path.{_≡_, refl, ap, ap₂, _∙_}
 use mathlib.Core.List.{List, [], _∷_, _++_, map}
 use native.Mathlib.Omega.{arith}
 use lib.ListN.{length, getD}
 use lib.Seq.{sets}
-use Rattle.order.specs.declared.Order.{Order}
 use Rattle.order.specs.declared.Order.the-variants.{Stop}
 use Rattle.order.specs.Order.{number, operand}
 use Rattle.sheet.specs.declared.Field.{Field}
 use Rattle.sheet.specs.Sheet.{Instruction}
-use Rattle.sheet.specs.Fields.{instructionFields, fieldsOfAll}
+use Rattle.sheet.specs.Fields.{fieldsOfAll}
 use Rattle.sheet.specs.Translation.{temporary, instructionCode, instructionsCode}
 use Rattle.translate.specs.declared.put.Spot.{Spot}
-use Rattle.translate.specs.Internal.{left, Placed, placed, Written, written, putOrder, putOrders, Putting, instructionBy, HoldsAll}
+use Rattle.translate.specs.Internal.{left, Placed, placed, written, putOrder, putOrders, Putting}
+use Rattle.translate.specs.Internal.{instructionBy, HoldsAll}
 use Rattle.translate.proofs.Places.{left-length}
 use Rattle.translate.proofs.Measured.{not-else, fields-left}
 use Rattle.translate.proofs.Coded.{place, put-append, put-place, put-sets, instruction-coded}
@@ -35,7 +35,8 @@ module _ (ks vs : List ℕ) (n word : ℕ) (firsts ns₀ os₀ : List ℕ) where
     pub rest : List Instruction
     pub fields-too : left n (s .at) ks vs ≡ fieldsOfAll rest
     pub orders-too :
-        putOrders (instructionsCode v to (s .i) rest) (placed (s .i) ns os) ≡ putOrders (instructionsCode v to 0 is) (placed 0 ns₀ os₀)
+        putOrders (instructionsCode v to (s .i) rest) (placed (s .i) ns os) ≡ putOrders (instructionsCode v to 0 is)
+        (placed 0 ns₀ os₀)
 
   pub record Filled (ns os : List ℕ) (s : Spot) : Type 0 where
     pub inside : s .at ≤ n
@@ -54,13 +55,16 @@ module _ (ks vs : List ℕ) (n word : ℕ) (firsts ns₀ os₀ : List ℕ) where
   }
 
   module _ (ns os : List ℕ) (s : Spot) (f : Filled ns os s) where
-    module _ (h : s .at < n) (r : Spot) (ns₁ os₁ : List ℕ) (numbers-too : length ns₁ ≡ length ns) (operands-too : length os₁ ≡ length os)
-        (one : Putting n (s .at) 0 ks vs (instructionBy firsts word) (s .i) r (placed (s .i) ns os) (placed (r .i) ns₁ os₁)) where
+    module _ (h : s .at < n) (r : Spot) (ns₁ os₁ : List ℕ) (numbers-too : length ns₁ ≡ length ns)
+        (operands-too : length os₁ ≡ length os)
+        (one : Putting n (s .at) 0 ks vs (instructionBy firsts word) (s .i) r (placed (s .i) ns os)
+        (placed (r .i) ns₁ os₁)) where
       first-done :
           (v : ℕ) (is rest : List Instruction)
           → word ≡ v + 2
           → left n (s .at) ks vs ≡ fieldsOfAll rest
-          → putOrders (instructionsCode v to (s .i) rest) (placed (s .i) ns os) ≡ putOrders (instructionsCode v to 0 is) (placed 0 ns₀ os₀)
+          → putOrders (instructionsCode v to (s .i) rest) (placed (s .i) ns os)
+          ≡ putOrders (instructionsCode v to 0 is) (placed 0 ns₀ os₀)
           → Rest v is ns₁ os₁ r
       unfolding instructionsCode fieldsOfAll
       first-done v is [] w e o = absurd (omega (arith, ap length e, left-length ks vs n (s .at)))
@@ -76,7 +80,8 @@ module _ (ks vs : List ℕ) (n word : ℕ) (firsts ns₀ os₀ : List ℕ) where
           _
           (one .whole n (omega arith)
           ∙ ap₂ (λ u l. instructionBy firsts u n l p) base e
-          ∙ instruction-coded firsts n v i (fieldsOfAll rest) (not-else rest) (omega (arith, fields-left ks vs n (s .at) i rest e)) p (s .i) refl) in
+          ∙ instruction-coded firsts n v i (fieldsOfAll rest) (not-else rest)
+          (omega (arith, fields-left ks vs n (s .at) i rest e)) p (s .i) refl) in
           let there : r .i ≡ s .i + length code = ap place (coded .1) ∙ put-place code p in
           record {
             rest = rest;
@@ -100,7 +105,8 @@ module _ (ks vs : List ℕ) (n word : ℕ) (firsts ns₀ os₀ : List ℕ) where
       all-done :
           (v : ℕ) (is rest : List Instruction)
           → rest ≡ []
-          → putOrders (instructionsCode v to (s .i) rest) (placed (s .i) ns os) ≡ putOrders (instructionsCode v to 0 is) (placed 0 ns₀ os₀)
+          → putOrders (instructionsCode v to (s .i) rest) (placed (s .i) ns os)
+          ≡ putOrders (instructionsCode v to 0 is) (placed 0 ns₀ os₀)
           → placed j ns₁ os₁ ≡ putOrders (instructionsCode v to 0 is ++ Stop ∷ []) (placed 0 ns₀ os₀)
       unfolding instructionsCode putOrders
       all-done v is [] none o =
@@ -123,7 +129,8 @@ module _ (ks vs : List ℕ) (n word : ℕ) (firsts ns₀ os₀ : List ℕ) where
           _
           _
           _
-          (all-done v is (q .rest) (none-left ks vs n (s .at) (q .rest) h (q .fields-too)) (q .orders-too) ∙ put-sets _ 0 ns₀ os₀)
+          (all-done v is (q .rest) (none-left ks vs n (s .at) (q .rest) h (q .fields-too)) (q .orders-too) ∙ put-sets _ 0
+          ns₀ os₀)
 
       pub filled-numbers : HoldsAll ks vs n word firsts number ns₀ ns₁
       filled-numbers v is w e = ended v is w e .1

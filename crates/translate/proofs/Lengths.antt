@@ -1,47 +1,26 @@
 -- How many orders and fields a sheet has.
-use Prim.Native.Nat.{ℕ, suc, _+_, _*_, _<_, _≤_}
-use mathlib.Core.Path.{_≡_, refl, sym, ap, _∙_}
-use mathlib.Core.List.{List, [], _∷_, _++_}
+use Prim.Native.Nat.{ℕ, suc, _+_, _*_, _≤_}
+use mathlib.Core.Path.{_≡_}
+use mathlib.Core.List.{List, [], _∷_}
 use native.Mathlib.Omega.{arith}
 use lib.ListN.{length, length-append}
 use Rattle.order.specs.declared.Operation.{Operation}
 use Rattle.order.specs.declared.Operation.the-variants.{Load, Cmp}
-use Rattle.order.specs.declared.Order.{Order}
 use Rattle.order.specs.declared.Order.the-variants.{Word, Number, Store, Neg, Not, Send, Stop}
-use Rattle.sheet.specs.Sheet.{Expression, word, constant, negated, inverted, binary, Simple, set, send, goto, Instruction, simple, when, either}
+use Rattle.sheet.specs.Sheet.{Expression, word, constant, negated, inverted, binary, Simple, set, send, goto, Instruction}
+use Rattle.sheet.specs.Sheet.{simple, when, either}
 use Rattle.sheet.specs.Sheet.{sheet, workedOut, operand}
 use Rattle.sheet.specs.Fields.{expressionFields, simpleFields, instructionFields, fieldsOfAll}
-use Rattle.sheet.specs.Translation.{operation, temporary, joined, code, simpleCode, comparisonCode, instructionCode, instructionsCode, orders, ordersOfAll}
+use Rattle.sheet.specs.Translation.{operation, temporary, joined, code, simpleCode}
+use Rattle.sheet.specs.Translation.{instructionsCode, orders, ordersOfAll}
 use Rattle.sheet.specs.Translation.{firstOrder, translation}
+use Rattle.sheet.proofs.Targets.{all-count}
 use Rattle.translate.proofs.Measured.{length-one, length-both, when-fields, either-fields, when-orders, either-orders}
 
--- ---- orders: as many wherever an instruction stands and its jumps lead
-
-module _ (v : ℕ) where
-  simple-orders : (u : Simple) (to : ℕ → ℕ) → length (simpleCode v to u) ≡ length (simpleCode v (λ s. 0) u)
-  simple-orders (set w e) to = refl
-  simple-orders (send e) to = refl
-  simple-orders (goto s) to = refl
-
-  pub orders-anywhere : (to : ℕ → ℕ) (p : ℕ) (i : Instruction) → length (instructionCode v to p i) ≡ orders v i
-  orders-anywhere to p (simple u) = simple-orders u to
-  orders-anywhere to p (when r a b u) =
-      omega (arith, when-orders v to p r a b u, when-orders v (λ s. 0) 0 r a b u, simple-orders u to)
-  orders-anywhere to p (either r a b u w) =
-      omega (arith, either-orders v to p r a b u w, either-orders v (λ s. 0) 0 r a b u w, simple-orders u to, simple-orders w to)
-
-  orders-of-all : (to : ℕ → ℕ) (p : ℕ) (is : List Instruction) → length (instructionsCode v to p is) ≡ ordersOfAll v is
-  unfolding instructionsCode ordersOfAll
-  orders-of-all to p [] = refl
-  orders-of-all to p (i ∷ is) =
-      let first = instructionCode v to p i in
-      let rest = instructionsCode v to (p + length first) is in
-      omega (arith, length-append first rest, orders-anywhere to p i, orders-of-all to (p + length first) is)
-
-  pub translation-length : (is : List Instruction) → length (translation (sheet v is)) ≡ ordersOfAll v is + 1
-  translation-length is =
-      let os = instructionsCode v (firstOrder v is) 0 is in
-      omega (arith, length-append os (Stop ∷ []), orders-of-all (firstOrder v is) 0 is)
+pub translation-length : (v : ℕ) (is : List Instruction) → length (translation (sheet v is)) ≡ ordersOfAll v is + 1
+translation-length v is =
+    let os = instructionsCode v (firstOrder v is) 0 is in
+    omega (arith, length-append os (Stop ∷ []), all-count v (firstOrder v is) 0 is)
 
 -- ---- fields: no order stands for more than two
 
@@ -50,7 +29,8 @@ module _ (v : ℕ) where
       (d : ℕ) (o : Operation) (a b : Expression)
       → length (expressionFields a) + 1 ≤ 2 * length (code v d a)
       → length (expressionFields b) + 1 ≤ 2 * length (code v (suc d) b)
-      → length (expressionFields a) + length (expressionFields b) + 2 ≤ 2 * length (joined o v d workedOut (code v d a) (code v (suc d) b))
+      → length (expressionFields a) + length (expressionFields b) + 2 ≤ 2 * length
+      (joined o v d workedOut (code v d a) (code v (suc d) b))
   worked-out-twice d o a b g h =
       let x = temporary v d in
       let y = temporary v (suc d) in
@@ -60,7 +40,8 @@ module _ (v : ℕ) where
       (d : ℕ) (o : Operation) (a b : Expression)
       → length (expressionFields a) + 1 ≤ 2 * length (code v d a)
       → length (expressionFields b) + 1 ≤ 2 * length (code v (suc d) b)
-      → length (expressionFields a) + length (expressionFields b) + 2 ≤ 2 * length (joined o v d (operand b) (code v d a) (code v (suc d) b))
+      → length (expressionFields a) + length (expressionFields b) + 2 ≤ 2 * length
+      (joined o v d (operand b) (code v d a) (code v (suc d) b))
   unfolding expressionFields
   operands-twice d o a (word w) g h = omega (arith, length-one (code v d a) (Word o w))
   operands-twice d o a (constant n) g h = omega (arith, length-one (code v d a) (Number o n))
@@ -110,4 +91,5 @@ module _ (v : ℕ) where
   pub fields-twice : (is : List Instruction) → length (fieldsOfAll is) ≤ 2 * ordersOfAll v is
   unfolding fieldsOfAll ordersOfAll
   fields-twice [] = omega arith
-  fields-twice (i ∷ is) = omega (arith, length-append (instructionFields i) (fieldsOfAll is), instruction-twice i, fields-twice is)
+  fields-twice (i ∷ is) =
+      omega (arith, length-append (instructionFields i) (fieldsOfAll is), instruction-twice i, fields-twice is)

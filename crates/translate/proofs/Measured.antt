@@ -5,7 +5,6 @@ use mathlib.Core.Bool.{false}
 use mathlib.Core.List.{List, [], _∷_, _++_, append-assoc}
 use native.Mathlib.Omega.{arith}
 use lib.ListN.{length, length-append}
-use Rattle.base.specs.Choice.{pick}
 use Rattle.base.proofs.Cases.{pick-yes, pick-no}
 use Rattle.word.specs.declared.Relation.{Relation}
 use Rattle.order.specs.declared.Operation.{Operation}
@@ -14,15 +13,19 @@ use Rattle.order.specs.declared.Order.{Order}
 use Rattle.order.specs.declared.Order.the-variants.{Jump}
 use Rattle.sheet.specs.declared.Field.{Field}
 use Rattle.sheet.specs.declared.Field.the-variants.{Else, Then}
-use Rattle.sheet.specs.Sheet.{Expression, word, constant, negated, inverted, binary, Simple, set, send, goto, Instruction, simple, when, either}
+use Rattle.sheet.specs.Sheet.{Expression, word, constant, negated, inverted, binary, Simple, set, send, goto, Instruction}
+use Rattle.sheet.specs.Sheet.{simple, when, either}
 use Rattle.sheet.specs.Sheet.{workedOut, operand}
 use Rattle.sheet.specs.Fields.{expressionFields, simpleFields, instructionFields, fieldsOfAll}
-use Rattle.sheet.specs.Translation.{operation, joined, code, simpleCode, comparisonCode, instructionCode, joinedTemporaries, temporaries}
-use Rattle.sheet.specs.Translation.{past, choice, closed, orders, simpleTemporaries, comparisonTemporaries, instructionTemporaries}
+use Rattle.sheet.specs.Translation.{operation, joined, code, simpleCode, comparisonCode, instructionCode}
+use Rattle.sheet.specs.Translation.{joinedTemporaries, temporaries}
+use Rattle.sheet.specs.Translation.{past, choice, closed, orders, simpleTemporaries, comparisonTemporaries}
+use Rattle.sheet.specs.Translation.{instructionTemporaries}
 use Rattle.translate.specs.declared.size.Size.{Size}
 use Rattle.translate.specs.Answers.{SizeOf}
 use Rattle.translate.specs.Internal.{left, Sizing}
-use Rattle.translate.specs.Internal.{Sized, sized, longer, sizeBoth, sizeAfter, sizeOperands, sizeExpression, operandsBy, sizeSimple, firstElse}
+use Rattle.translate.specs.Internal.{sized, longer, sizeBoth, sizeAfter, sizeOperands, sizeExpression}
+use Rattle.translate.specs.Internal.{operandsBy, sizeSimple, firstElse}
 use Rattle.translate.specs.Internal.{sizeElse, sizeThen, sizeTest, sizeIf, sizeInstruction}
 use Rattle.translate.proofs.Places.{left-length}
 
@@ -30,7 +33,9 @@ use Rattle.translate.proofs.Places.{left-length}
 pub length-one : (os : List Order) (o : Order) → length os + 1 ≡ length (os ++ o ∷ [])
 length-one os o = sym (length-append os (o ∷ []))
 
-pub length-both : (os ps : List Order) (a b c d : Order) → length os + length ps + 4 ≡ length (os ++ a ∷ ps ++ b ∷ c ∷ d ∷ [])
+pub length-both :
+    (os ps : List Order) (a b c d : Order)
+    → length os + length ps + 4 ≡ length (os ++ a ∷ ps ++ b ∷ c ∷ d ∷ [])
 length-both os ps a b c d =
     omega (arith, length-append (os ++ a ∷ ps) (b ∷ c ∷ d ∷ []), length-append os (a ∷ ps))
 
@@ -92,7 +97,10 @@ some-fields (negated e) = omega arith
 some-fields (inverted e) = omega arith
 some-fields (binary o a b) = omega arith
 
-pub expression-measured : (e : Expression) (l : List Field) (f v d : ℕ) → length (expressionFields e) ≤ f → Measured f v d e l
+pub expression-measured :
+    (e : Expression) (l : List Field) (f v d : ℕ)
+    → length (expressionFields e) ≤ f
+    → Measured f v d e l
 unfolding expressionFields sizeExpression code temporaries
 expression-measured e l zero v d h = absurd (omega (arith, some-fields e))
 expression-measured (word w) l (suc f) v d h = refl
@@ -104,7 +112,8 @@ expression-measured (inverted e) l (suc f) v d h =
 expression-measured (binary o a b) l (suc f) v d h =
     ap (sizeOperands (sizeExpression f)) (append-assoc (expressionFields a) (expressionFields b) l)
     ∙ operands-measured f v d (operation o) a l b
-    (expression-measured a (expressionFields b ++ l) f v d (omega (arith, length-append (expressionFields a) (expressionFields b))))
+    (expression-measured a (expressionFields b ++ l) f v d
+    (omega (arith, length-append (expressionFields a) (expressionFields b))))
     (expression-measured b l f v (suc d) (omega (arith, length-append (expressionFields a) (expressionFields b))))
 
 -- ---- instructions
@@ -115,23 +124,28 @@ module _ (f v : ℕ) (l : List Field) where
       → length (simpleFields u) ≤ f
       → sizeSimple f (simpleFields u ++ l) ≡ sized (length (simpleCode v to u)) (simpleTemporaries u) l
   simple-measured (set w e) to h =
-      ap longer (expression-measured e l f v 0 (omega arith)) ∙ ap (λ a. sized a (temporaries e) l) (length-one (code v 0 e) _)
+      ap longer (expression-measured e l f v 0 (omega arith)) ∙ ap (λ a. sized a (temporaries e) l)
+      (length-one (code v 0 e) _)
   simple-measured (send e) to h =
-      ap longer (expression-measured e l f v 0 (omega arith)) ∙ ap (λ a. sized a (temporaries e) l) (length-one (code v 0 e) _)
+      ap longer (expression-measured e l f v 0 (omega arith)) ∙ ap (λ a. sized a (temporaries e) l)
+      (length-one (code v 0 e) _)
   simple-measured (goto s) to h = refl
 
   comparison-measured :
       (a b : Expression)
       → length (expressionFields a) ≤ f
       → length (expressionFields b) ≤ f
-      → operandsBy f (expressionFields a ++ (expressionFields b ++ l)) ≡ sized (length (comparisonCode v a b)) (comparisonTemporaries a b) l
+      → operandsBy f (expressionFields a ++ (expressionFields b ++ l))
+      ≡ sized (length (comparisonCode v a b)) (comparisonTemporaries a b) l
   comparison-measured a b g h =
-      operands-measured f v 0 Cmp a l b (expression-measured a (expressionFields b ++ l) f v 0 g) (expression-measured b l f v 1 h)
+      operands-measured f v 0 Cmp a l b (expression-measured a (expressionFields b ++ l) f v 0 g)
+      (expression-measured b l f v 1 h)
 
 -- the number of an IF's fields
 pub when-fields :
     (r : Relation) (a b : Expression) (u : Simple)
-    → length (instructionFields (when r a b u)) ≡ length (expressionFields a) + length (expressionFields b) + length (simpleFields u) + 2
+    → length (instructionFields (when r a b u))
+    ≡ length (expressionFields a) + length (expressionFields b) + length (simpleFields u) + 2
 when-fields r a b u =
     omega (
       arith,
@@ -191,10 +205,12 @@ module _ (f v : ℕ) (to : ℕ → ℕ) (p : ℕ) (l : List Field) (no-else : fi
       let t = comparisonTemporaries a b in
       let o = length (comparisonCode v a b) in
       ap (sizeIf f) (simp append-assoc)
-      ∙ ap (sizeTest f) (comparison-measured f v (Then ∷ (simpleFields u ++ Else ∷ (simpleFields w ++ l))) a b (omega arith) (omega arith))
+      ∙ ap (sizeTest f)
+      (comparison-measured f v (Then ∷ (simpleFields u ++ Else ∷ (simpleFields w ++ l))) a b (omega arith) (omega arith))
       ∙ ap (sizeThen f o t) (simple-measured f v (Else ∷ (simpleFields w ++ l)) u to (omega arith))
       ∙ sym (pick-yes _ _ _ _ refl refl)
-      ∙ ap (sizeElse (o + 1 + length (simpleCode v to u)) (max t (simpleTemporaries u))) (simple-measured f v l w to (omega arith))
+      ∙ ap (sizeElse (o + 1 + length (simpleCode v to u)) (max t (simpleTemporaries u)))
+      (simple-measured f v l w to (omega arith))
       ∙ ap₂ (λ j k. sized j k l) (either-orders v to p r a b u w) (omega arith)
 
 -- ---- the instruction at a place
@@ -220,7 +236,8 @@ some-instruction (either r a b u w) = omega (arith, either-fields r a b u w)
 same-orders : (o p t u : ℕ) (l m : List Field) → sized o t l ≡ sized p u m → (o ≡ p) × (t ≡ u) × (l ≡ m)
 same-orders o p t u l m e = (cc, cc, cc)
 
-module _ (ks vs : List ℕ) (n at : ℕ) (i : Instruction) (is : List Instruction) (e : left n at ks vs ≡ fieldsOfAll (i ∷ is)) where
+module _ (ks vs : List ℕ) (n at : ℕ) (i : Instruction) (is : List Instruction)
+    (e : left n at ks vs ≡ fieldsOfAll (i ∷ is)) where
   -- its fields and those behind it are those that are left
   pub fields-left : length (instructionFields i) + length (fieldsOfAll is) ≡ n - at
   unfolding fieldsOfAll
@@ -230,7 +247,9 @@ module _ (ks vs : List ℕ) (n at : ℕ) (i : Instruction) (is : List Instructio
   fields-inside = omega (arith, fields-left, some-instruction i)
 
   module _ (r : Size) (s : Sizing n at 0 ks vs sizeInstruction r) where
-    measured : (v : ℕ) → (r .orders ≡ orders v i) × (r .temporaries ≡ instructionTemporaries i) × (left n (r .at) ks vs ≡ fieldsOfAll is)
+    measured :
+        (v : ℕ)
+        → (r .orders ≡ orders v i) × (r .temporaries ≡ instructionTemporaries i) × (left n (r .at) ks vs ≡ fieldsOfAll is)
     unfolding fieldsOfAll
     measured v =
         same-orders _ _ _ _ _ _

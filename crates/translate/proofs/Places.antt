@@ -6,7 +6,7 @@ use native.Mathlib.Omega.{arith}
 use native.Mathlib.Numerals.{add-one}
 use lib.ListN.{length, getD}
 use Rattle.base.proofs.Cases.{by-less}
-use Rattle.sheet.specs.Fields.{fieldOf, fieldsFrom}
+use Rattle.sheet.specs.Memory.{fieldOf, fieldsFrom}
 use Rattle.translate.specs.declared.node.Node.{Node}
 use Rattle.translate.specs.declared.node.Node.the-variants.{Plain, Unary, Binary, Missing}
 use Rattle.translate.specs.declared.node.Opening.{Opening}

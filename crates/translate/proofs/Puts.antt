@@ -2,7 +2,7 @@
 use Prim.Native.Nat.{ℕ, zero, suc, _+_, _*_, _<_, _≤_}
 use mathlib.Core.Path.{_≡_, refl, sym, ap, ap₂, _∙_}
 use mathlib.Core.Bool.{true, false}
-use mathlib.Core.List.{List, [], _∷_}
+use mathlib.Core.List.{List}
 use native.Mathlib.Omega.{arith}
 use lib.ListN.{getD}
 use Rattle.base.proofs.Cases.{pick-yes, pick-no}
@@ -20,16 +20,23 @@ use Rattle.translate.specs.declared.node.Opening.{Opening}
 use Rattle.translate.specs.declared.node.Opening.the-variants.{Last, Goto, If}
 use Rattle.translate.specs.declared.size.Size.{Size}
 use Rattle.translate.specs.declared.put.Spot.{Spot}
-use Rattle.translate.specs.Internal.{left, behind, firstNode, firstRight, orderOn, firstOpening, Placed, Written, written, putOrder, Putting}
-use Rattle.translate.specs.Internal.{withLast, putClosing, putBoth, putRight, putBy, putAfter, putOperands, putNode, putExpression, expressionBy}
-use Rattle.translate.specs.Internal.{operandsPutBy, rightPutBy, putOpened, simpleBy, putBranch, putJump, putOther, elseBy, withElse, eitherBy, putChosen}
-use Rattle.translate.specs.Internal.{choiceBy, withChoice, ifBy, putFirst, instructionBy, placed, Past, firstElse, Sizing, sizeSimple}
+use Rattle.translate.specs.Internal.{left, behind, firstNode, firstRight, orderOn, firstOpening, Placed, Written}
+use Rattle.translate.specs.Internal.{written, putOrder, Putting}
+use Rattle.translate.specs.Internal.{withLast, putClosing, putBoth, putBy, putAfter, putNode}
+use Rattle.translate.specs.Internal.{putExpression, expressionBy}
+use Rattle.translate.specs.Internal.{operandsPutBy, rightPutBy, putOpened, simpleBy, putBranch, putJump, putOther}
+use Rattle.translate.specs.Internal.{elseBy, withElse, eitherBy, putChosen}
+use Rattle.translate.specs.Internal.{choiceBy, withChoice, ifBy, putFirst, instructionBy, placed, Past, firstElse}
+use Rattle.translate.specs.Internal.{Sizing, sizeSimple}
 use Rattle.translate.proofs.Places.{left-behind, past-left, past-on}
 
 module _ (ks vs : List ℕ) (n at word i : ℕ) (p : Placed) where
   -- ---- expressions
 
-  none-put : firstNode (left n at ks vs) ≡ Missing → (f : ℕ) → written (left n at ks vs) p ≡ putExpression f word (left n at ks vs) p
+  none-put :
+      firstNode (left n at ks vs) ≡ Missing
+      → (f : ℕ)
+      → written (left n at ks vs) p ≡ putExpression f word (left n at ks vs) p
   unfolding putExpression
   none-put e zero = refl
   none-put e (suc f) = sym (ap (λ x. putNode (putExpression f) word x (left n at ks vs) p) e)
@@ -48,7 +55,10 @@ module _ (ks vs : List ℕ) (n at word i : ℕ) (p : Placed) where
   node-put x e h r by zero k = absurd (omega arith)
   node-put x e h r by (suc f) k = by f (omega arith) ∙ sym (ap (λ y. putNode (putExpression f) word y (left n at ks vs) p) e)
 
-  pub missing-put : at ≤ n → firstNode (left n at ks vs) ≡ Missing → Putting n at 0 ks vs (expressionBy word) i (record { at = at; i = i }) p p
+  pub missing-put :
+      at ≤ n
+      → firstNode (left n at ks vs) ≡ Missing
+      → Putting n at 0 ks vs (expressionBy word) i (record { at = at; i = i }) p p
   missing-put h e = record { on = omega arith; inside = h; few = omega arith; whole = λ f k. none-put e f }
 
   module _ (h : at < n) where
@@ -65,18 +75,25 @@ module _ (ks vs : List ℕ) (n at word i : ℕ) (p : Placed) where
       on = omega arith;
       inside = omega arith;
       few = omega arith;
-      whole = node-put (Plain x) e h (written (left n (at + 1) ks vs) q) (λ f k. ap₂ written (left-behind ks vs n at h) (order ∙ ap (λ y. putOrder y p) load));
+      whole = node-put (Plain x) e h (written (left n (at + 1) ks vs) q)
+          (λ f k. ap₂ written (left-behind ks vs n at h) (order ∙ ap (λ y. putOrder y p) load));
     }
 
     -- an inner expression r from the place behind, with q put; then the order o
-    module _ (o : Order) (r : Spot) (q : Placed) (s : Putting n (at + 1) 0 ks vs (expressionBy word) i r p q) (j : ℕ) (q₁ : Placed)
+    module _ (o : Order) (r : Spot) (q : Placed) (s : Putting n (at + 1) 0 ks vs (expressionBy word) i r p q) (j : ℕ)
+        (q₁ : Placed)
         (one : j ≡ r .i + 1) (order : q₁ ≡ putOrder o q) where
-      inner-put : (f : ℕ) → n ≤ at + 1 + f → written (left n (r .at) ks vs) q₁ ≡ withLast o (putExpression f word (behind (left n at ks vs)) p)
+      inner-put :
+          (f : ℕ)
+          → n ≤ at + 1 + f
+          → written (left n (r .at) ks vs) q₁ ≡ withLast o (putExpression f word (behind (left n at ks vs)) p)
       inner-put f k =
           ap (written (left n (r .at) ks vs)) order
           ∙ ap (withLast o) (s .whole f k ∙ ap (λ l. putExpression f word l p) (left-behind ks vs n at h))
 
-      pub unary-put : firstNode (left n at ks vs) ≡ Unary o → Putting n at 0 ks vs (expressionBy word) i (record { at = r .at; i = j }) p q₁
+      pub unary-put :
+          firstNode (left n at ks vs) ≡ Unary o
+          → Putting n at 0 ks vs (expressionBy word) i (record { at = r .at; i = j }) p q₁
       unary-put e = record {
         on = omega arith;
         inside = s .inside;

@@ -1,10 +1,9 @@
 -- A whole sheet: where its jumps lead, and what the functions make of it.
-use Prim.Native.Nat.{ℕ, zero, suc, _+_, _-_, _*_, _<_, _≤_}
+use Prim.Native.Nat.{ℕ, zero, suc, _+_, _-_, _<_, _≤_}
 use mathlib.Core.Path.{_≡_, refl, sym, ap, ap₂, subst, _∙_}
 use mathlib.Core.Bool.{true, false}
 use mathlib.Core.List.{List, [], _∷_, _++_, map}
 use native.Mathlib.Omega.{arith}
-use native.Mathlib.Nat.{add-zero}
 use lib.ListN.{length, getD, take}
 use lib.Seq.{sets}
 use Rattle.base.proofs.Cases.{pick-yes, pick-no}
@@ -13,19 +12,22 @@ use Rattle.order.specs.declared.Order.{Order}
 use Rattle.order.specs.declared.Order.the-variants.{Jump, Stop}
 use Rattle.order.specs.Order.{number, operand}
 use Rattle.order.specs.Limits.{mostVariables, mostTemporaries, mostOrders}
-use Rattle.sheet.specs.Sheet.{Simple, set, send, goto, Instruction, simple, when, either, Sheet, sheet, variables, instructions}
+use Rattle.sheet.specs.Sheet.{Simple, set, send, goto, Instruction, simple, when, either, Sheet, sheet, variables}
+use Rattle.sheet.specs.Sheet.{instructions}
 use Rattle.sheet.specs.Within.{Leads, SimpleFormed, InstructionFormed, AllFormed, Formed}
-use Rattle.sheet.specs.Fields.{fieldsOfAll, sheetFields, fieldsFrom}
-use Rattle.sheet.specs.Translation.{simpleCode, comparisonCode, choice, closed, instructionCode, instructionsCode, orders, ordersOfAll, firstOrder}
-use Rattle.sheet.specs.Translation.{translation, temporariesOfAll, sheetTemporaries}
+use Rattle.sheet.specs.Fields.{fieldsOfAll}
+use Rattle.sheet.specs.Memory.{fieldsFrom}
+use Rattle.sheet.specs.Translation.{simpleCode, comparisonCode, choice, closed, instructionCode, instructionsCode, orders}
+use Rattle.sheet.specs.Translation.{ordersOfAll, firstOrder}
+use Rattle.sheet.specs.Translation.{translation, sheetTemporaries}
 use Rattle.translate.specs.declared.size.Size.{Size}
-use Rattle.translate.specs.Limits.{mostFields}
+use Rattle.sheet.specs.Memory.{mostFields}
 use Rattle.translate.specs.Answers.{OfSheet, withinLimits, whole, over, answerFor, filledFor}
 use Rattle.translate.specs.Internal.{left, firstOrders, Total, Totals, HoldsAll}
 use Rattle.translate.proofs.Places.{left-length}
 use Rattle.translate.proofs.Measured.{some-instruction}
 use Rattle.translate.proofs.Lengths.{translation-length, instruction-twice, fields-twice}
-use Rattle.translate.proofs.Within.{variables-over, temporaries-over, orders-over, none-over}
+use Rattle.translate.proofs.Within.{temporaries-over, orders-over, none-over}
 
 -- ---- where GOTO s leads: the array of first orders has it for every s that a sheet may name
 
@@ -40,7 +42,10 @@ module _ (v : ℕ) where
   few-instructions [] = omega arith
   few-instructions (i ∷ is) = omega (arith, few-instructions is, instruction-twice v i, some-instruction i)
 
-  first-at : (is : List Instruction) (o k : ℕ) → k ≤ length is → getD (firstOrders v is o) k 0 ≡ o + ordersOfAll v (take k is)
+  first-at :
+      (is : List Instruction) (o k : ℕ)
+      → k ≤ length is
+      → getD (firstOrders v is o) k 0 ≡ o + ordersOfAll v (take k is)
   unfolding firstOrders ordersOfAll
   first-at [] o zero h = omega arith
   first-at [] o (suc k) h = absurd (omega arith)
@@ -55,7 +60,10 @@ module _ (v n : ℕ) (to to₂ : ℕ → ℕ) (alike : (s : ℕ) → Leads n s �
   simple-alike (send e) h = refl
   simple-alike (goto s) h = ap (λ a. Jump a ∷ []) (alike s h)
 
-  instruction-alike : (p : ℕ) (i : Instruction) → InstructionFormed v n i → instructionCode v to p i ≡ instructionCode v to₂ p i
+  instruction-alike :
+      (p : ℕ) (i : Instruction)
+      → InstructionFormed v n i
+      → instructionCode v to p i ≡ instructionCode v to₂ p i
   instruction-alike p (simple u) h = simple-alike u h
   instruction-alike p (when r a b u) h =
       let test = comparisonCode v a b in
@@ -83,7 +91,8 @@ module _ (ks vs : List ℕ) (n v : ℕ) (is : List Instruction) (e : fieldsFrom 
 
   pub fields-over : mostFields < n → withinLimits (sheet v is) ≡ false
   fields-over h =
-      orders-over (sheet v is) (omega (arith, translation-length v is, fields-twice v is, ap length all-left, left-length ks vs n 0))
+      orders-over (sheet v is)
+      (omega (arith, translation-length v is, fields-twice v is, ap length all-left, left-length ks vs n 0))
 
   -- its sizes
   module _ (before after : List ℕ) (t : Size) (sizes : Totals ks vs n before after t) where
@@ -105,7 +114,8 @@ module _ (ks vs : List ℕ) (n v : ℕ) (is : List Instruction) (e : fieldsFrom 
           (omega (arith, total .temporaries-too))
           (omega (arith, total .orders-too, translation-length v is))
 
-      pub total-answer : whole (t .temporaries) (t .orders + 1) ≡ whole (sheetTemporaries (sheet v is)) (length (translation (sheet v is)))
+      pub total-answer :
+          whole (t .temporaries) (t .orders + 1) ≡ whole (sheetTemporaries (sheet v is)) (length (translation (sheet v is)))
       total-answer = ap₂ whole (total .temporaries-too) (omega (arith, total .orders-too, translation-length v is))
 
       -- its jumps
@@ -124,7 +134,8 @@ module _ (ks vs : List ℕ) (n v : ℕ) (is : List Instruction) (e : fieldsFrom 
           → Formed (sheet v is)
           → instructionsCode v (λ s. getD after s 0) 0 is ++ Stop ∷ [] ≡ translation (sheet v is)
       total-code room formed =
-          ap (λ os. os ++ Stop ∷ []) (all-alike v (length is) (λ s. getD after s 0) (firstOrder v is) (leads room) 0 is formed)
+          ap (λ os. os ++ Stop ∷ [])
+          (all-alike v (length is) (λ s. getD after s 0) (firstOrder v is) (leads room) 0 is formed)
 
 -- ---- every sheet with v variables that has these fields
 

@@ -2,7 +2,7 @@
 use Prim.Native.Nat.{ℕ, zero, suc, _+_, _*_, _<_, _≤_, max}
 use mathlib.Core.Path.{_≡_, refl, sym, ap, _∙_}
 use mathlib.Core.Bool.{true, false}
-use mathlib.Core.List.{List, [], _∷_}
+use mathlib.Core.List.{List}
 use native.Mathlib.Omega.{arith}
 use Rattle.base.proofs.Cases.{pick-yes, pick-no}
 use Rattle.word.specs.declared.Relation.{Relation}
@@ -15,15 +15,20 @@ use Rattle.translate.specs.declared.node.Right.the-variants.{Plain as Pl
 use Rattle.translate.specs.declared.node.Opening.{Opening}
 use Rattle.translate.specs.declared.node.Opening.the-variants.{Last, If}
 use Rattle.translate.specs.declared.size.Size.{Size}
-use Rattle.translate.specs.Internal.{left, behind, firstNode, firstRight, Sized, sized, sizedBy, Sizing, longer, sizeBoth, sizeRight, sizeAfter}
-use Rattle.translate.specs.Internal.{sizeNode, sizeExpression, operandsBy, firstOpening, sizeOpened, sizeSimple, firstElse, sizeElse, sizeChoice}
+use Rattle.translate.specs.Internal.{left, behind, firstNode, firstRight, Sized, sized, sizedBy, Sizing, longer}
+use Rattle.translate.specs.Internal.{sizeBoth, sizeRight, sizeAfter}
+use Rattle.translate.specs.Internal.{sizeNode, sizeExpression, operandsBy, firstOpening, sizeOpened, sizeSimple}
+use Rattle.translate.specs.Internal.{firstElse, sizeElse, sizeChoice}
 use Rattle.translate.specs.Internal.{sizeThen, sizeTest, sizeIf, sizeFirst, sizeInstruction, Past}
-use Rattle.translate.proofs.Places.{left-behind, past-left, past-on, past-inside}
+use Rattle.translate.proofs.Places.{left-behind, past-left, past-on}
 
 -- ---- expressions
 
 module _ (ks vs : List ℕ) (n at : ℕ) where
-  none-sized : firstNode (left n at ks vs) ≡ Missing → (f : ℕ) → sized 0 0 (left n at ks vs) ≡ sizeExpression f (left n at ks vs)
+  none-sized :
+      firstNode (left n at ks vs) ≡ Missing
+      → (f : ℕ)
+      → sized 0 0 (left n at ks vs) ≡ sizeExpression f (left n at ks vs)
   unfolding sizeExpression
   none-sized e zero = refl
   none-sized e (suc f) = sym (ap (λ x. sizeNode (sizeExpression f) x (left n at ks vs)) e)
@@ -42,7 +47,10 @@ module _ (ks vs : List ℕ) (n at : ℕ) where
   node-sized x e h r by zero k = absurd (omega arith)
   node-sized x e h r by (suc f) k = by f (omega arith) ∙ sym (ap (λ y. sizeNode (sizeExpression f) y (left n at ks vs)) e)
 
-  pub missing-sized : at ≤ n → firstNode (left n at ks vs) ≡ Missing → Sizing n at 0 ks vs sizeExpression (record { at = at; orders = 0; temporaries = 0 })
+  pub missing-sized :
+      at ≤ n
+      → firstNode (left n at ks vs) ≡ Missing
+      → Sizing n at 0 ks vs sizeExpression (record { at = at; orders = 0; temporaries = 0 })
   missing-sized h e = record {
     on = omega arith;
     inside = h;
@@ -61,7 +69,8 @@ module _ (ks vs : List ℕ) (n at : ℕ) where
       inside = omega arith;
       few-orders = omega arith;
       few-temporaries = omega arith;
-      whole = node-sized (Plain x) e h (sized 1 0 (left n (at + 1) ks vs)) (λ f k. ap (sized 1 0) (left-behind ks vs n at h));
+      whole = node-sized (Plain x) e h (sized 1 0 (left n (at + 1) ks vs))
+          (λ f k. ap (sized 1 0) (left-behind ks vs n at h));
     }
 
     pub unary-sized :
@@ -90,7 +99,8 @@ module _ (ks vs : List ℕ) (n at : ℕ) where
       inside = s .inside;
       few-orders = omega arith;
       few-temporaries = omega arith;
-      whole = node-sized (Binary o) e h (sizedBy n ks vs r) (λ f k. s .whole f k ∙ ap (operandsBy f) (left-behind ks vs n at h));
+      whole = node-sized (Binary o) e h (sizedBy n ks vs r)
+          (λ f k. s .whole f k ∙ ap (operandsBy f) (left-behind ks vs n at h));
     }
 
   -- ---- the two operands of an operation
@@ -172,11 +182,13 @@ module _ (ks vs : List ℕ) (n at : ℕ) where
 
   -- ---- an IF: the comparison t, and the instruction u behind THEN, which stands at p
 
-  module _ (t : Size) (s : Sizing n at 4 ks vs operandsBy t) (p : ℕ) (i : Past n (t .at) p) (u : Size) (q : Sizing n p 0 ks vs sizeSimple u) where
+  module _ (t : Size) (s : Sizing n at 4 ks vs operandsBy t) (p : ℕ) (i : Past n (t .at) p) (u : Size)
+      (q : Sizing n p 0 ks vs sizeSimple u) where
     then-sized :
         (f : ℕ)
         → n ≤ at + f
-        → sizeChoice f (t .orders + 1 + u .orders) (max (t .temporaries) (u .temporaries)) (left n (u .at) ks vs) ≡ sizeIf f (left n at ks vs)
+        → sizeChoice f (t .orders + 1 + u .orders) (max (t .temporaries) (u .temporaries)) (left n (u .at) ks vs)
+        ≡ sizeIf f (left n at ks vs)
     then-sized f k =
         ap
         (sizeThen f (t .orders) (t .temporaries))

@@ -1,6 +1,6 @@
 -- The loop over the instructions that sums their sizes.
-use Prim.Native.Nat.{ℕ, suc, _+_, _*_, _<_, _≤_, max}
-use mathlib.Core.Path.{_≡_, refl, sym, ap, _∙_}
+use Prim.Native.Nat.{ℕ, _+_, _*_, _<_, _≤_, max}
+use mathlib.Core.Path.{_≡_, refl, ap, _∙_}
 use mathlib.Core.List.{List, [], _∷_}
 use native.Mathlib.Omega.{arith}
 use native.Mathlib.Numerals.{add-one}
@@ -10,7 +10,6 @@ use Rattle.sheet.specs.Sheet.{Instruction}
 use Rattle.sheet.specs.Fields.{fieldsOfAll}
 use Rattle.sheet.specs.Translation.{orders, ordersOfAll, instructionTemporaries, temporariesOfAll}
 use Rattle.translate.specs.declared.size.Size.{Size}
-use Rattle.translate.specs.Answers.{SizeOf}
 use Rattle.translate.specs.Internal.{left, Moves, Sizing, sizeInstruction, firstOrders, Total, Totals}
 use Rattle.translate.proofs.Places.{left-length}
 use Rattle.translate.proofs.Measured.{fields-inside, rest-left, instruction-size-of}
@@ -42,11 +41,13 @@ module _ (ks vs : List ℕ) (n : ℕ) (before : List ℕ) where
     few = omega arith;
     counted = omega arith;
     kept = refl;
-    whole = λ v is e. record { rest = is; fields-too = e; orders-too = omega arith; temporaries-too = omega arith; firsts-too = refl };
+    whole = λ v is e. record
+        { rest = is; fields-too = e; orders-too = omega arith; temporaries-too = omega arith; firsts-too = refl };
   }
 
   module _ (now : List ℕ) (t : Size) (k : ℕ) (s : Summed ks vs n before now t k) where
-    module _ (h : t .at < n) (r : Size) (one : Sizing n (t .at) 0 ks vs sizeInstruction r) (moves : Moves n (t .at) (r .at)) where
+    module _ (h : t .at < n) (r : Size) (one : Sizing n (t .at) 0 ks vs sizeInstruction r)
+        (moves : Moves n (t .at) (r .at)) where
       abbrev next : Size
       next = record { at = r .at; orders = t .orders + r .orders; temporaries = max (t .temporaries) (r .temporaries) }
 
@@ -98,4 +99,5 @@ module _ (ks vs : List ℕ) (n : ℕ) (before : List ℕ) where
     pub summed-end : n ≤ t .at → Totals ks vs n before (store now k (t .orders)) t
     summed-end h v is e =
         let q = s .whole v is e in
-        all-done v is (q .rest) (none-left ks vs n (t .at) (q .rest) h (q .fields-too)) (q .orders-too) (q .temporaries-too) (q .firsts-too)
+        all-done v is (q .rest) (none-left ks vs n (t .at) (q .rest) h (q .fields-too)) (q .orders-too)
+        (q .temporaries-too) (q .firsts-too)

@@ -12,12 +12,13 @@ use Rattle.order.specs.declared.Order.{Order}
 use Rattle.order.specs.Limits.{mostVariables, mostTemporaries, mostOrders}
 use Rattle.sheet.specs.Sheet.{Instruction, Sheet, variables}
 use Rattle.sheet.specs.Within.{Formed}
-use Rattle.sheet.specs.Fields.{instructionFields, fieldsOfAll, sheetFields, fieldsFrom}
+use Rattle.sheet.specs.Fields.{instructionFields, fieldsOfAll, sheetFields}
+use Rattle.sheet.specs.Memory.{fieldsFrom}
 use Rattle.sheet.specs.Translation.{orders, instructionTemporaries, translation, sheetTemporaries}
 use Rattle.translate.specs.declared.size.Size.{Size}
 use Rattle.translate.specs.declared.Translated.{Translated}
 use Rattle.translate.specs.declared.Translated.the-variants.{Whole, Over}
-use Rattle.translate.specs.Limits.{mostFields}
+use Rattle.sheet.specs.Memory.{mostFields}
 
 -- ---- the size of an instruction
 
@@ -30,7 +31,10 @@ pub record SizeOf (at : ℕ) (i : Instruction) (r : Size) : Type 0 where
 -- the size at a place of n fields is that of the first of the instructions whose fields are left there
 abbrev pub SizeAt : List ℕ → List ℕ → ℕ → ℕ → Size → Type 0
 SizeAt ks vs n at r =
-    n ≤ mostFields → (i : Instruction) (is : List Instruction) → fieldsFrom at (n - at) ks vs ≡ fieldsOfAll (i ∷ is) → SizeOf at i r
+    n ≤ mostFields
+    → (i : Instruction) (is : List Instruction)
+    → fieldsFrom at (n - at) ks vs ≡ fieldsOfAll (i ∷ is)
+    → SizeOf at i r
 
 -- ---- the translation of a sheet
 

@@ -14,10 +14,12 @@ use Rattle.order.specs.declared.Order.{Order}
 use Rattle.order.specs.declared.Order.the-variants.{Word, Number, Store, Neg, Not, Jump, Branch, Send, Stop}
 use Rattle.order.specs.Order.{number, operand}
 use Rattle.sheet.specs.declared.Field.{Field}
-use Rattle.sheet.specs.declared.Field.the-variants.{Else, Then, Send as Sent, Neg as Negated, Not as Inverted, Binary as Between}
-use Rattle.sheet.specs.declared.Field.the-variants.{If as Compared, Word as InWord, Constant as Itself, Set, Goto as Gone}
+use Rattle.sheet.specs.declared.Field.the-variants.{Else, Then, Send as Sent, Neg as Negated, Not as Inverted}
+use Rattle.sheet.specs.declared.Field.the-variants.{Binary as Between, If as Compared, Word as InWord, Constant as Itself}
+use Rattle.sheet.specs.declared.Field.the-variants.{Set, Goto as Gone}
 use Rattle.sheet.specs.Sheet.{Instruction}
-use Rattle.sheet.specs.Fields.{fieldsOfAll, fieldsFrom}
+use Rattle.sheet.specs.Fields.{fieldsOfAll}
+use Rattle.sheet.specs.Memory.{fieldsFrom}
 use Rattle.sheet.specs.Translation.{operation, opposite, instructionsCode, orders, ordersOfAll, temporariesOfAll}
 use Rattle.translate.specs.declared.node.Operand.{Operand}
 use Rattle.translate.specs.declared.node.Operand.the-variants.{Word as OnWord, Constant as OnConstant}
@@ -29,7 +31,7 @@ use Rattle.translate.specs.declared.node.Opening.{Opening}
 use Rattle.translate.specs.declared.node.Opening.the-variants.{Last, Goto, If, Missing as Unopened}
 use Rattle.translate.specs.declared.size.Size.{Size}
 use Rattle.translate.specs.declared.put.Spot.{Spot}
-use Rattle.translate.specs.Limits.{mostFields}
+use Rattle.sheet.specs.Memory.{mostFields}
 
 -- ---- fields
 
@@ -145,8 +147,8 @@ pub data Sized : Type 0 where
 abbrev pub sizedBy : ℕ → List ℕ → List ℕ → Size → Sized
 sizedBy n ks vs r = sized (r .orders) (r .temporaries) (left n (r .at) ks vs)
 
--- what a size at a place is: within n; no more than 8 orders or temporaries a field, and k; and by f, the fields left at most,
--- as the mirror has it
+-- what a size at a place is: within n; no more than 8 orders or temporaries a field, and k more; and as the mirror has it,
+-- which is given a bound on the fields that are left
 pub record Sizing (n at k : ℕ) (ks vs : List ℕ) (mirror : ℕ → List Field → Sized) (r : Size) : Type 0 where
   pub on : at ≤ r .at
   pub inside : r .at ≤ n
@@ -236,15 +238,17 @@ unfoldable pub putOrders : List Order → Placed → Placed
 putOrders [] p = p
 putOrders (o ∷ os) p = putOrders os (putOrder o p)
 
--- the place, a word and the orders so far leave room: words are numbers of 32 bits, and there are no more than 8 orders a field
+-- the place, a word and the orders so far leave room: a word's number has 32 bits, and no field has more than 8 orders
 pub record Room (n at word i : ℕ) : Type 0 where
   pub inside : at ≤ n
   pub few : n ≤ mostFields
   pub words : word + n ≤ at + 4294967295
   pub orders : i ≤ 8 * at
 
--- what is put at a place: within n; no more than 8 orders a field, and k; and by f, the fields left at most, as the mirror has it
-pub record Putting (n at k : ℕ) (ks vs : List ℕ) (mirror : ℕ → List Field → Placed → Written) (i : ℕ) (r : Spot) (p q : Placed) : Type 0 where
+-- what is put from place i on by reading from a place: within n; no more than 8 orders a field, and k more; and as the mirror
+-- has it
+pub record Putting (n at k : ℕ) (ks vs : List ℕ) (mirror : ℕ → List Field → Placed → Written) (i : ℕ) (r : Spot)
+    (p q : Placed) : Type 0 where
   pub on : at ≤ r .at
   pub inside : r .at ≤ n
   pub few : r .i + 8 * at ≤ i + 8 * r .at + k
@@ -253,7 +257,7 @@ pub record Putting (n at k : ℕ) (ks vs : List ℕ) (mirror : ℕ → List Fiel
 abbrev pub withLast : Order → Written → Written
 withLast o (written l p) = written l (putOrder o p)
 
--- an operation: the left operand, then the right one by what it is; where it is worked out, the two come to be in words a and b
+-- an operation: the left operand, then the right one by what it is; one that is worked out goes to word b, the left to a
 abbrev pub putClosing : Operation → ℕ → ℕ → Placed → Placed
 putClosing f a b p = putOrder (Word f b) (putOrder (Word Load a) (putOrder (Store b) p))
 
@@ -304,7 +308,7 @@ putOpened firsts word f Unopened l p = written (behind l) p
 abbrev pub simpleBy : List ℕ → ℕ → ℕ → List Field → Placed → Written
 simpleBy firsts word f l p = putOpened firsts word f (firstOpening l) l p
 
--- an IF: the branch, past o orders and k more; the jump over the o orders of the other instruction; then by whether there is ELSE
+-- an IF: the branch past o orders and k more, and the jump over the o orders of the other instruction
 abbrev pub putBranch : Relation → ℕ → ℕ → Placed → Placed
 putBranch r o k (placed i ks vs) = putOrder (Branch (opposite r) (i + o + k)) (placed i ks vs)
 

@@ -8,12 +8,10 @@ use crate::size::total_size;
 use order::MOST_ORDERS;
 use order::MOST_TEMPORARIES;
 use order::MOST_VARIABLES;
+use sheet::MOST_FIELDS;
 ghost use mathlib.Core.Path.{_≡_};
 ghost use Rattle.order.specs.Order.{number, operand};
 ghost use Rattle.translate.specs.Answers.{OfSheet, translated, answerFor, filledFor};
-
-// `mostFields` of specs/Limits.antt.
-const MOST_FIELDS: usize = 2048;
 
 // T and N of a sheet's translation, or that a limit is passed.
 pub enum Translated {
@@ -32,8 +30,10 @@ pub fn translate(
     operands: &mut [u32],
 ) -> Translated
     ensures answered { λ r. ⌜ OfSheet (now (kinds .entry)) (now (values .entry)) n v (λ s. translated r ≡ answerFor s) ⌝ }
-    ensures numbered { λ _. ⌜ OfSheet (now (kinds .entry)) (now (values .entry)) n v (λ s. now (numbers .exit) ≡ filledFor s number (now (numbers .entry))) ⌝ }
-    ensures ordered { λ _. ⌜ OfSheet (now (kinds .entry)) (now (values .entry)) n v (λ s. now (operands .exit) ≡ filledFor s operand (now (operands .entry))) ⌝ }
+    ensures numbered { λ _. ⌜ OfSheet (now (kinds .entry)) (now (values .entry)) n v
+        (λ s. now (numbers .exit) ≡ filledFor s number (now (numbers .entry))) ⌝ }
+    ensures ordered { λ _. ⌜ OfSheet (now (kinds .entry)) (now (values .entry)) n v
+        (λ s. now (operands .exit) ≡ filledFor s operand (now (operands .entry))) ⌝ }
 {
     if MOST_FIELDS < n {
         return Translated::Over;

@@ -19,8 +19,9 @@ use word::Relation;
 ghost use mathlib.Core.Path.{_≡_};
 ghost use Prim.Native.Nat.{_+_, _<_, _≤_};
 ghost use Rattle.order.specs.Order.{number, operand};
-ghost use Rattle.translate.specs.Internal.{placed, putOrder, putClosing, Room, Putting, expressionBy, operandsPutBy, rightPutBy, simpleBy};
-ghost use Rattle.translate.specs.Internal.{Moves, elseBy, eitherBy, choiceBy, ifBy, instructionBy, HoldsAll};
+ghost use Rattle.translate.specs.Internal.{Room, Putting, Moves, placed, putOrder, putClosing, HoldsAll};
+ghost use Rattle.translate.specs.Internal.{expressionBy, operandsPutBy, rightPutBy, simpleBy, elseBy, eitherBy};
+ghost use Rattle.translate.specs.Internal.{choiceBy, ifBy, instructionBy};
 
 // A place among the fields, and one among the orders.
 struct Spot {
@@ -31,7 +32,8 @@ struct Spot {
 fn put_order(numbers: &mut [u8], operands: &mut [u32], i: u32, o: Order) -> u32
     requires { ⌜ i < 4294967295 ⌝ }
     ensures counted { λ r. ⌜ r ≡ i + 1 ⌝ }
-    ensures put { λ r. ⌜ placed r (now (numbers .exit)) (now (operands .exit)) ≡ putOrder o (placed i (now (numbers .entry)) (now (operands .entry))) ⌝ }
+    ensures put { λ r. ⌜ placed r (now (numbers .exit)) (now (operands .exit))
+        ≡ putOrder o (placed i (now (numbers .entry)) (now (operands .entry))) ⌝ }
 {
     base::put_byte(numbers, i as usize, number_of(o));
     base::put_word(operands, i as usize, operand_of(o));
@@ -42,7 +44,8 @@ fn put_order(numbers: &mut [u8], operands: &mut [u32], i: u32, o: Order) -> u32
 fn put_closing(numbers: &mut [u8], operands: &mut [u32], i: u32, f: Operation, word: u32) -> u32
     requires { ⌜ (i < 4294967293) × (word < 4294967295) ⌝ }
     ensures counted { λ r. ⌜ r ≡ i + 3 ⌝ }
-    ensures put { λ r. ⌜ placed r (now (numbers .exit)) (now (operands .exit)) ≡ putClosing f word (word + 1) (placed i (now (numbers .entry)) (now (operands .entry))) ⌝ }
+    ensures put { λ r. ⌜ placed r (now (numbers .exit)) (now (operands .exit))
+        ≡ putClosing f word (word + 1) (placed i (now (numbers .entry)) (now (operands .entry))) ⌝ }
 {
     let j = put_order(numbers, operands, i, Order::Store(word + 1));
     let k = put_order(numbers, operands, j, Order::Word(Operation::Load, word));
@@ -61,7 +64,9 @@ fn put_expression(
     i: u32,
 ) -> Spot
     requires { ⌜ Room n at word i ⌝ }
-    ensures { λ r. ⌜ Putting n at 0 (now (kinds .entry)) (now (values .entry)) (expressionBy word) i r (placed i (now (numbers .entry)) (now (operands .entry))) (placed (r .i) (now (numbers .exit)) (now (operands .exit))) ⌝ }
+    ensures { λ r. ⌜ Putting n at 0 (now (kinds .entry)) (now (values .entry)) (expressionBy word) i r
+        (placed i (now (numbers .entry)) (now (operands .entry)))
+        (placed (r .i) (now (numbers .exit)) (now (operands .exit))) ⌝ }
 {
     match node_at(kinds, values, n, at) {
         Node::Plain(x) => Spot {
@@ -93,7 +98,9 @@ fn put_operands(
     i: u32,
 ) -> Spot
     requires { ⌜ Room n at (word + 1) (i + 4) ⌝ }
-    ensures { λ r. ⌜ Putting n at 4 (now (kinds .entry)) (now (values .entry)) (operandsPutBy f word) i r (placed i (now (numbers .entry)) (now (operands .entry))) (placed (r .i) (now (numbers .exit)) (now (operands .exit))) ⌝ }
+    ensures { λ r. ⌜ Putting n at 4 (now (kinds .entry)) (now (values .entry)) (operandsPutBy f word) i r
+        (placed i (now (numbers .entry)) (now (operands .entry)))
+        (placed (r .i) (now (numbers .exit)) (now (operands .exit))) ⌝ }
 {
     let first = put_expression(kinds, values, n, at, word, numbers, operands, i);
     match right_at(kinds, values, n, first.at) {
@@ -130,7 +137,9 @@ fn put_right(
     i: u32,
 ) -> Spot
     requires { ⌜ Room n at (word + 1) (i + 4) ⌝ }
-    ensures { λ r. ⌜ Putting n at 4 (now (kinds .entry)) (now (values .entry)) (rightPutBy f word) i r (placed i (now (numbers .entry)) (now (operands .entry))) (placed (r .i) (now (numbers .exit)) (now (operands .exit))) ⌝ }
+    ensures { λ r. ⌜ Putting n at 4 (now (kinds .entry)) (now (values .entry)) (rightPutBy f word) i r
+        (placed i (now (numbers .entry)) (now (operands .entry)))
+        (placed (r .i) (now (numbers .exit)) (now (operands .exit))) ⌝ }
 {
     let j = put_order(numbers, operands, i, Order::Store(word));
     let second = put_expression(kinds, values, n, at, word + 1, numbers, operands, j);
@@ -140,7 +149,8 @@ fn put_right(
     }
 }
 
-// An instruction that can be part of an IF; `word` is that of the first temporary, `firsts` has each instruction's first order.
+// An instruction that can be part of an IF. `word` is that of the first temporary, `firsts` has the first order of each
+// instruction.
 fn put_simple(
     kinds: &[u8],
     values: &[u32],
@@ -153,7 +163,10 @@ fn put_simple(
     i: u32,
 ) -> Spot
     requires { ⌜ Room n at word i ⌝ }
-    ensures put { λ r. ⌜ Putting n at 0 (now (kinds .entry)) (now (values .entry)) (simpleBy (now (firsts .entry)) word) i r (placed i (now (numbers .entry)) (now (operands .entry))) (placed (r .i) (now (numbers .exit)) (now (operands .exit))) ⌝ }
+    ensures put { λ r. ⌜ Putting n at 0 (now (kinds .entry)) (now (values .entry))
+        (simpleBy (now (firsts .entry)) word) i r
+        (placed i (now (numbers .entry)) (now (operands .entry)))
+        (placed (r .i) (now (numbers .exit)) (now (operands .exit))) ⌝ }
     ensures moved { λ r. ⌜ Moves n at (r .at) ⌝ }
 {
     match opening_at(kinds, values, n, at) {
@@ -189,7 +202,10 @@ fn put_else(
     i: u32,
 ) -> Spot
     requires { ⌜ Room n at word (i + 1) ⌝ }
-    ensures { λ r. ⌜ Putting n at 1 (now (kinds .entry)) (now (values .entry)) (elseBy (now (firsts .entry)) word) i r (placed i (now (numbers .entry)) (now (operands .entry))) (placed (r .i) (now (numbers .exit)) (now (operands .exit))) ⌝ }
+    ensures { λ r. ⌜ Putting n at 1 (now (kinds .entry)) (now (values .entry))
+        (elseBy (now (firsts .entry)) word) i r
+        (placed i (now (numbers .entry)) (now (operands .entry)))
+        (placed (r .i) (now (numbers .exit)) (now (operands .exit))) ⌝ }
 {
     let other = past(n, at);
     let second = simple_size(kinds, values, n, other);
@@ -212,7 +228,10 @@ fn put_either(
     i: u32,
 ) -> Spot
     requires { ⌜ Room n at word (i + 2) × (orders ≤ 20000) ⌝ }
-    ensures { λ r. ⌜ Putting n at 2 (now (kinds .entry)) (now (values .entry)) (eitherBy (now (firsts .entry)) word relation orders) i r (placed i (now (numbers .entry)) (now (operands .entry))) (placed (r .i) (now (numbers .exit)) (now (operands .exit))) ⌝ }
+    ensures { λ r. ⌜ Putting n at 2 (now (kinds .entry)) (now (values .entry))
+        (eitherBy (now (firsts .entry)) word relation orders) i r
+        (placed i (now (numbers .entry)) (now (operands .entry)))
+        (placed (r .i) (now (numbers .exit)) (now (operands .exit))) ⌝ }
 {
     let o = Order::Branch(opposite_of(relation), i + orders + 2);
     let j = put_order(numbers, operands, i, o);
@@ -244,7 +263,10 @@ fn put_choice(
     i: u32,
 ) -> Spot
     requires { ⌜ Room n at word (i + 2) ⌝ }
-    ensures { λ r. ⌜ Putting n at 2 (now (kinds .entry)) (now (values .entry)) (choiceBy (now (firsts .entry)) word relation) i r (placed i (now (numbers .entry)) (now (operands .entry))) (placed (r .i) (now (numbers .exit)) (now (operands .exit))) ⌝ }
+    ensures { λ r. ⌜ Putting n at 2 (now (kinds .entry)) (now (values .entry))
+        (choiceBy (now (firsts .entry)) word relation) i r
+        (placed i (now (numbers .entry)) (now (operands .entry)))
+        (placed (r .i) (now (numbers .exit)) (now (operands .exit))) ⌝ }
 {
     let first = simple_size(kinds, values, n, at);
     if else_at(kinds, values, n, first.at) {
@@ -281,7 +303,10 @@ fn put_if(
     i: u32,
 ) -> Spot
     requires { ⌜ Room n at (word + 1) (i + 6) ⌝ }
-    ensures { λ r. ⌜ Putting n at 6 (now (kinds .entry)) (now (values .entry)) (ifBy (now (firsts .entry)) word relation) i r (placed i (now (numbers .entry)) (now (operands .entry))) (placed (r .i) (now (numbers .exit)) (now (operands .exit))) ⌝ }
+    ensures { λ r. ⌜ Putting n at 6 (now (kinds .entry)) (now (values .entry))
+        (ifBy (now (firsts .entry)) word relation) i r
+        (placed i (now (numbers .entry)) (now (operands .entry)))
+        (placed (r .i) (now (numbers .exit)) (now (operands .exit))) ⌝ }
 {
     let test = put_operands(
         kinds,
@@ -321,7 +346,10 @@ fn put_instruction(
     i: u32,
 ) -> Spot
     requires { ⌜ Room n at word i ⌝ }
-    ensures put { λ r. ⌜ Putting n at 0 (now (kinds .entry)) (now (values .entry)) (instructionBy (now (firsts .entry)) word) i r (placed i (now (numbers .entry)) (now (operands .entry))) (placed (r .i) (now (numbers .exit)) (now (operands .exit))) ⌝ }
+    ensures put { λ r. ⌜ Putting n at 0 (now (kinds .entry)) (now (values .entry))
+        (instructionBy (now (firsts .entry)) word) i r
+        (placed i (now (numbers .entry)) (now (operands .entry)))
+        (placed (r .i) (now (numbers .exit)) (now (operands .exit))) ⌝ }
     ensures moved { λ r. ⌜ Moves n at (r .at) ⌝ }
 {
     match opening_at(kinds, values, n, at) {
@@ -356,8 +384,10 @@ pub(crate) fn put_all(
     operands: &mut [u32],
 )
     requires { ⌜ Room n 0 word 0 ⌝ }
-    ensures numbered { λ _. ⌜ HoldsAll (now (kinds .entry)) (now (values .entry)) n word (now (firsts .entry)) number (now (numbers .entry)) (now (numbers .exit)) ⌝ }
-    ensures ordered { λ _. ⌜ HoldsAll (now (kinds .entry)) (now (values .entry)) n word (now (firsts .entry)) operand (now (operands .entry)) (now (operands .exit)) ⌝ }
+    ensures numbered { λ _. ⌜ HoldsAll (now (kinds .entry)) (now (values .entry)) n word (now (firsts .entry))
+        number (now (numbers .entry)) (now (numbers .exit)) ⌝ }
+    ensures ordered { λ _. ⌜ HoldsAll (now (kinds .entry)) (now (values .entry)) n word (now (firsts .entry))
+        operand (now (operands .entry)) (now (operands .exit)) ⌝ }
 {
     let mut spot = Spot { at: 0, i: 0 };
     while spot.at < n {

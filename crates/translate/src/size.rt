@@ -1,5 +1,4 @@
 // The sizes of a translation's parts, before any of it is written.
-use crate::MOST_FIELDS;
 use crate::node::Node;
 use crate::node::Opening;
 use crate::node::Right;
@@ -8,11 +7,13 @@ use crate::node::node_at;
 use crate::node::opening_at;
 use crate::node::past;
 use crate::node::right_at;
+use sheet::MOST_FIELDS;
 ghost use mathlib.Core.Path.{_≡_};
 ghost use Prim.Native.Nat.{_≤_, max};
 ghost use Rattle.translate.specs.Answers.{SizeAt};
-ghost use Rattle.translate.specs.Internal.{Inside, Sizing, sizeExpression, operandsBy, sizeSimple, sizeIf, sizeInstruction, Moves, Totals};
-ghost use Rattle.translate.specs.Limits.{mostFields};
+ghost use Rattle.translate.specs.Internal.{Inside, Sizing, Moves, sizeExpression, operandsBy, sizeSimple, sizeIf};
+ghost use Rattle.translate.specs.Internal.{sizeInstruction, Totals};
+ghost use Rattle.sheet.specs.Memory.{mostFields};
 
 // The place behind an instruction or a part of one, the number of its orders, and of the temporaries that it uses.
 pub struct Size {
@@ -169,7 +170,8 @@ pub(crate) fn total_size(kinds: &[u8], values: &[u32], n: usize, firsts: &mut [u
         };
         k += 1;
     }
-    base::put_word(firsts, k, total.orders);
+    let end = total.orders;
+    base::put_word(firsts, k, end);
     total
 }
 

@@ -1,5 +1,6 @@
 use borrow.Author.Needs.{needs}
 use mathlib.Core.Path.{ap, _∙_}
+use native.Mathlib.Omega.{arith}
 use Rattle.text.specs.Internal.{putAll}
 use Rattle.text.proofs.Writing.{write-short, write-whole}
 use Rattle.order.specs.Order.{ordersFrom}
@@ -11,19 +12,14 @@ use Rattle.object_text.proofs.write.Tie as tie
 returns : tie.Need-returns
 returns c =
     let a = c .before .before .before .before .before .args in
-    write-short
-    12
-    (text (a .v) (a .t) (ordersFrom 0 (a .n) (a .numbers .now) (a .operands .now)))
-    _
-    _
-    (c .before .text-length .ensures)
-    (c .if1 .taken)
+    let all = text (a .v) (a .t) (ordersFrom 0 (a .n) (a .numbers .now) (a .operands .now)) in
+    write-short 12 all (a .buffer .now) _ (c .before .text-length .ensures) (omega (arith, c .if1 .taken))
 
 returns-2 : tie.Need-returns-2
 returns-2 c =
     let h = c .before .before .before .before .before .before in
     let l = h .before .before in
-    write-whole 12 _ _ _ (l .before .text-length .ensures) (l .if1 .left) _ _
+    write-whole 12 _ _ _ (l .before .text-length .ensures) (omega (arith, l .if1 .left)) _ _
     (c .before .before .put-records .ensures ∙ ap (putAll _) (h .put-header .ensures) ∙ put-text _ _ _ _ _ _)
 
 pub write-spec : {M : Type 1} → statement M

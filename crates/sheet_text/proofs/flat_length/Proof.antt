@@ -4,7 +4,7 @@ use mathlib.Core.Path.{_≡_}
 use mathlib.Core.Bool.{false}
 use native.Mathlib.Omega.{arith}
 use lib.ListN.{length}
-use Rattle.sheet.specs.Fields.{fieldsFrom}
+use Rattle.sheet.specs.Memory.{fieldsFrom}
 use Rattle.sheet_text.specs.Internal.{fieldsText, flatText}
 use Rattle.sheet_text.proofs.Writing.{left, count-start, count-turn, count-over}
 use Rattle.sheet_text.proofs.flat_length.Statement.{statement}
@@ -13,7 +13,8 @@ use Rattle.sheet_text.proofs.flat_length.Tie as tie
 -- a field with its separator is at most 16 bytes, the header with the last newline 28
 abbrev Inv-loop : tie.InvT-loop
 Inv-loop kinds values n v instructions total₀ i₀ total i =
-    (total + length (fieldsText false (left kinds values n i)) ≡ 1 + length (flatText v instructions (fieldsFrom 0 n kinds values)))
+    (total + length (fieldsText false (left kinds values n i))
+    ≡ 1 + length (flatText v instructions (fieldsFrom 0 n kinds values)))
     × (total ≤ 28 + 16 * i)
 
 abbrev μ-loop : tie.MeasureT-loop
@@ -24,12 +25,14 @@ loop-holds c =
     let a = c .before .before .before .before .args in
     let v = c .before .decimal-length .ensures in
     let is = c .decimal-length2 .ensures in
-    (omega (arith, v .0, is .0, count-start (a .kinds .now) (a .values .now) (a .n) (a .v) (a .instructions)), omega (arith, v .1, is .1))
+    let start = count-start (a .kinds .now) (a .values .now) (a .n) (a .v) (a .instructions) in
+    (omega (arith, v .0, is .0, start), omega (arith, v .1, is .1))
 
 add-total-4 : tie.Need-add-total-4 Inv-loop μ-loop
 add-total-4 c =
     let l = c .before .before in
-    record { fits = omega (arith, l .before .loop .inv .1, c .field-length .ensures .1, l .loop-test .taken, l .before .before .before .before .before .before .fits .n .fits) }
+    let n = l .before .before .before .before .before .before .fits .n in
+    record { fits = omega (arith, l .before .loop .inv .1, c .field-length .ensures .1, l .loop-test .taken, n .fits) }
 
 loop-again : tie.Need-loop-again Inv-loop μ-loop
 loop-again c =

@@ -5,7 +5,7 @@ use mathlib.Core.Bool.{false}
 use native.Mathlib.Omega.{arith}
 use lib.ListN.{length}
 use Rattle.text.specs.Internal.{placed, putAll}
-use Rattle.sheet.specs.Fields.{fieldsFrom}
+use Rattle.sheet.specs.Memory.{fieldsFrom}
 use Rattle.sheet_text.specs.Internal.{fieldsText}
 use Rattle.sheet_text.proofs.Writing.{left, put-start, put-turn, put-over}
 use Rattle.sheet_text.proofs.put_fields.Statement.{statement}
@@ -26,7 +26,13 @@ loop-again c =
     let b = f .before .before .before .before in
     let a = b .before .before .before in
     let l = a .before in (
-      put-turn _ _ _ _ _ _ _ _ _ _ _ (l .loop-test .taken) (a .field-at .ensures) (b .before .separator-of .ensures) (b .put-byte .ensures) (f .put-field .ensures) (c .opens-part .ensures)
+      put-turn _ _ _ _ _ _ _ _ _ _ _
+          (l .loop-test .taken)
+          (a .field-at .ensures)
+          (b .before .separator-of .ensures)
+          (b .put-byte .ensures)
+          (f .put-field .ensures)
+          (c .opens-part .ensures)
           ∙ l .before .loop .inv .0,
       f .put-field .kept .0 ∙ b .put-byte .kept .0 ∙ l .before .loop .inv .1,
     )

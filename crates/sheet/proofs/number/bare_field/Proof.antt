@@ -1,7 +1,7 @@
 use lib.ListN.{take}
 use Rattle.base.proofs.Arms.{none-of}
 use Rattle.sheet.specs.declared.Field.the-variants.{Not}
-use Rattle.sheet.specs.Fields.{bareFields}
+use Rattle.sheet.specs.Memory.{bareFields}
 use Rattle.sheet.proofs.Numbering.{last-of}
 use borrow.Author.Needs.{needs}
 use Rattle.sheet.proofs.number.bare_field.Statement.{statement}

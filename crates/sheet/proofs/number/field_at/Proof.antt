@@ -1,5 +1,5 @@
 use mathlib.Core.Path.{ap₂, _∙_}
-use Rattle.sheet.specs.Fields.{fieldOf}
+use Rattle.sheet.specs.Memory.{fieldOf}
 use borrow.Author.Needs.{needs}
 use Rattle.sheet.proofs.number.field_at.Statement.{statement}
 use Rattle.sheet.proofs.number.field_at.Tie as tie

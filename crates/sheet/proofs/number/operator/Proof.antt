@@ -1,7 +1,7 @@
 use lib.ListN.{take}
 use Rattle.base.proofs.Arms.{none-of}
 use Rattle.sheet.specs.declared.Operator.the-variants.{Unlike}
-use Rattle.sheet.specs.Fields.{operators}
+use Rattle.sheet.specs.Memory.{operators}
 use Rattle.sheet.proofs.Numbering.{last-of}
 use borrow.Author.Needs.{needs}
 use Rattle.sheet.proofs.number.operator.Statement.{statement}

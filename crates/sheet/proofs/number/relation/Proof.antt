@@ -1,7 +1,7 @@
 use lib.ListN.{take}
 use Rattle.base.proofs.Arms.{none-of}
 use Rattle.word.specs.declared.Relation.the-variants.{AtLeast}
-use Rattle.sheet.specs.Fields.{relations}
+use Rattle.sheet.specs.Memory.{relations}
 use Rattle.sheet.proofs.Numbering.{last-of}
 use borrow.Author.Needs.{needs}
 use Rattle.sheet.proofs.number.relation.Statement.{statement}

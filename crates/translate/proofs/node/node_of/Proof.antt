@@ -19,4 +19,29 @@ returns-9 : tie.Need-returns-9
 returns-9 c = rw (c .before .f3 .given .1) refl
 
 pub node-of-spec : {M : Type 1} → statement M
-node-of-spec = tie.close (tie.spec (λ c. search needs) (λ c. search needs) (λ c. search needs) (λ c. search needs) (λ c. search needs) (λ c. search needs) (λ c κs. search needs) (λ c. search needs) (λ c. search needs) (λ c. search needs) (λ c. search needs) (λ c. search needs) (λ c. search needs) (λ c. search needs) (λ c. search needs) returns-4 returns-5 returns-6 (λ c. search needs) returns-8 returns-9 (λ c. search needs) (λ c. search needs))
+node-of-spec =
+    tie.close
+    (tie.spec
+    (λ c. search needs)
+    (λ c. search needs)
+    (λ c. search needs)
+    (λ c. search needs)
+    (λ c. search needs)
+    (λ c. search needs)
+    (λ c κs. search needs)
+    (λ c. search needs)
+    (λ c. search needs)
+    (λ c. search needs)
+    (λ c. search needs)
+    (λ c. search needs)
+    (λ c. search needs)
+    (λ c. search needs)
+    (λ c. search needs)
+    returns-4
+    returns-5
+    returns-6
+    (λ c. search needs)
+    returns-8
+    returns-9
+    (λ c. search needs)
+    (λ c. search needs))

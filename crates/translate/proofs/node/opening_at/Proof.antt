@@ -7,8 +7,10 @@ use Rattle.translate.proofs.node.opening_at.Tie as tie
 
 returns : tie.Need-returns
 returns c =
-    let h = c .before .before .if1 .taken in
-    (rw (left-more _ _ _ _ h) (c .opening-of .ensures ∙ ap openingOf (c .before .field-at .ensures)), opening-inside _ _ h (c .opening-of .result))
+    let h = c .before .before .if1 .taken in (
+      rw (left-more _ _ _ _ h) (c .opening-of .ensures ∙ ap openingOf (c .before .field-at .ensures)),
+      opening-inside _ _ h (c .opening-of .result),
+    )
 
 returns-2 : tie.Need-returns-2
 returns-2 c = (rw (left-none _ _ _ _ (c .if1 .left)) refl, tt)

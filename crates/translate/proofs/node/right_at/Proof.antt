@@ -19,4 +19,15 @@ returns-4 : tie.Need-returns-4
 returns-4 c = (rw (← c .before .before .node-at .ensures .0, c .enum-told3 .given .1) refl, tt)
 
 pub right-at-spec : {M : Type 1} → statement M
-right-at-spec = tie.close (tie.spec (λ c κs. search needs) (λ c. search needs) (λ c. search needs) (λ c. search needs) (λ c. search needs) returns returns-2 returns-3 returns-4)
+right-at-spec =
+    tie.close
+    (tie.spec
+    (λ c κs. search needs)
+    (λ c. search needs)
+    (λ c. search needs)
+    (λ c. search needs)
+    (λ c. search needs)
+    returns
+    returns-2
+    returns-3
+    returns-4)

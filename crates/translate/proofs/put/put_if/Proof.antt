@@ -7,9 +7,11 @@ use Rattle.translate.proofs.put.put_if.Tie as tie
 
 put-choice-requires : tie.Need-put-choice-requires
 put-choice-requires c κs =
-    let a = c .before .before .before .before .before .before .before .before .before .before .before .before .before .before .before .args in
-    let p = c .before .before .before .before .before .before .before .before .before .before .before .before .before .before .before .pre in
-    let s = c .before .before .before .before .before .before .before .put-operands .ensures in
+    let at-put-operands = c .before .before .before .before .before .before .before in
+    let at-start = at-put-operands .before .before .before .before .before .before .before .before in
+    let a = at-start .args in
+    let p = at-start .pre in
+    let s = at-put-operands .put-operands .ensures in
     let on = past-on (a .kinds .now) (a .values .now) _ _ _ (c .before .before .past .ensures) in
     record {
       inside = past-inside (a .kinds .now) (a .values .now) _ _ _ (c .before .before .past .ensures) (s .inside);
@@ -19,7 +21,20 @@ put-choice-requires c κs =
     }
 
 returns : tie.Need-returns
-returns c = choice-put _ _ _ _ _ _ _ _ _ _ _ (c .before .before .before .before .before .before .before .before .before .before .before .before .put-operands .ensures) _ (c .before .before .before .before .before .before .before .past .ensures) _ _ (c .before .before .before .before .put-choice .ensures)
+returns c =
+    let at-put-choice = c .before .before .before .before in
+    let at-past = at-put-choice .before .before .before in
+    let at-put-operands = at-past .before .before .before .before .before in
+    choice-put _ _ _ _ _ _ _ _ _ _ _ (at-put-operands .put-operands .ensures) _ (at-past .past .ensures) _ _
+    (at-put-choice .put-choice .ensures)
 
 pub put-if-spec : {M : Type 1} → statement M
-put-if-spec = tie.close (tie.spec (λ c κs. search needs) (λ c κs. search needs) put-choice-requires (λ c. search needs) (λ c. search needs) returns)
+put-if-spec =
+    tie.close
+    (tie.spec
+    (λ c κs. search needs)
+    (λ c κs. search needs)
+    put-choice-requires
+    (λ c. search needs)
+    (λ c. search needs)
+    returns)

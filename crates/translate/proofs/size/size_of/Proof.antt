@@ -6,7 +6,8 @@ use Rattle.translate.proofs.size.size_of.Tie as tie
 
 returns-2 : tie.Need-returns-2
 returns-2 c =
-    let a = c .before .before .before .before .args in
+    let at-start = c .before .before .before .before in
+    let a = at-start .args in
     λ few i is e. absurd (omega (arith, c .if2 .taken, fields-inside (a .kinds .now) (a .values .now) _ _ i is e))
 
 returns-3 : tie.Need-returns-3

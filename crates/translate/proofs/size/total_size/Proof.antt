@@ -1,6 +1,5 @@
 use borrow.Author.Needs.{needs}
 use Prim.Native.Nat.{_-_}
-use mathlib.Core.Path.{ap, _∙_}
 use native.Mathlib.Omega.{arith}
 use Rattle.translate.proofs.Summing.{Summed, summed-start, summed-turn, summed-end}
 use Rattle.translate.proofs.size.total_size.Statement.{statement}
@@ -15,28 +14,47 @@ abbrev μ-loop : tie.MeasureT-loop
 loop-holds : tie.Need-loop-holds Inv-loop μ-loop
 loop-holds c = summed-start _ _ _ _
 
-instruction-size-requires : tie.Need-instruction-size-requires Inv-loop μ-loop
-instruction-size-requires c κs = record { inside = c .before .before .before .before .before .before .loop .inv .inside; few = c .before .before .before .before .before .before .before .before .before .before .pre }
-
-add-t12 : tie.Need-add-t12 Inv-loop μ-loop
-add-t12 c = record { fits = omega (arith, c .before .before .before .before .before .before .before .before .before .before .before .before .before .pre, c .before .before .before .before .before .before .before .before .before .loop .inv .few, c .before .before .before .before .before .before .before .before .before .loop .inv .inside, c .before .before .instruction-size .ensures .0) }
-
-add-k : tie.Need-add-k Inv-loop μ-loop
-add-k c = record { fits = omega (arith, c .before .before .before .before .before .before .before .before .before .before .before .before .before .before .pre, c .before .before .before .before .before .before .before .before .before .before .loop .inv .counted, c .before .before .before .before .before .before .before .before .before .before .loop .inv .inside) }
-
 loop-less : tie.Need-loop-less Inv-loop μ-loop
-loop-less c = omega (arith, c .before .before .before .before .before .before .before .before .if1 .taken, c .before .before .before .instruction-size .ensures .1 (c .before .before .before .before .before .before .before .before .if1 .taken), c .before .before .before .instruction-size .ensures .0 .inside)
+loop-less c =
+    let at-instruction-size = c .before .before .before in
+    let at-if1 = at-instruction-size .before .before .before .before .before in
+    omega (
+      arith,
+      at-if1 .if1 .taken,
+      at-instruction-size .instruction-size .ensures .1 (at-if1 .if1 .taken),
+      at-instruction-size .instruction-size .ensures .0 .inside,
+    )
 
 loop-again : tie.Need-loop-again Inv-loop μ-loop
 loop-again c =
-    rw (c .larger .ensures, c .before .before .before .before .before .before .put-word .ensures)
-    (summed-turn _ _ _ _ _ _ _ (c .before .before .before .before .before .before .before .before .before .before .loop .inv) (c .before .before .before .before .before .before .before .before .if1 .taken) _ (c .before .before .before .instruction-size .ensures .0) (c .before .before .before .instruction-size .ensures .1))
-
-same-length : tie.Need-same-length Inv-loop μ-loop
-same-length c = c .before .before .put-word2 .kept .0 ∙ c .before .before .before .before .before .before .loop .inv .kept
+    let at-instruction-size = c .before .before .before in
+    let at-put-word = at-instruction-size .before .before .before in
+    let at-if1 = at-put-word .before .before in
+    let at-loop = at-if1 .before .before in
+    rw (c .larger .ensures, at-put-word .put-word .ensures)
+    (summed-turn _ _ _ _ _ _ _ (at-loop .loop .inv) (at-if1 .if1 .taken) _
+    (at-instruction-size .instruction-size .ensures .0) (at-instruction-size .instruction-size .ensures .1))
 
 returns : tie.Need-returns Inv-loop μ-loop
-returns c = rw (c .before .before .put-word2 .ensures) (summed-end _ _ _ _ _ _ _ (c .before .before .before .before .before .before .loop .inv) (c .before .before .before .before .if1 .left))
+returns c =
+    let at-if1 = c .before .before .before .before in
+    let at-loop = at-if1 .before .before in
+    rw (c .before .before .put-word2 .ensures) (summed-end _ _ _ _ _ _ _ (at-loop .loop .inv) (at-if1 .if1 .left))
 
 pub total-size-spec : {M : Type 1} → statement M
-total-size-spec = tie.close (tie.spec Inv-loop μ-loop loop-holds (λ c κs. search needs) instruction-size-requires add-t12 (λ c κs. search needs) add-k loop-less loop-again (λ c κs. search needs) same-length returns)
+total-size-spec =
+    tie.close
+    (tie.spec
+    Inv-loop
+    μ-loop
+    loop-holds
+    (λ c κs. search needs)
+    (λ c κs. search needs)
+    (λ c. search needs)
+    (λ c κs. search needs)
+    (λ c. search needs)
+    loop-less
+    loop-again
+    (λ c κs. search needs)
+    (λ c. search needs)
+    returns)
