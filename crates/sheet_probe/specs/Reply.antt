@@ -1,5 +1,5 @@
 -- The numbers in which the exported functions reply.
-use Prim.Native.Nat.{ℕ, _+_, _-_, _*_, _≤_}
+use Prim.Native.Nat.{ℕ, _+_, _-_, _*_, _%_, _≤_}
 use mathlib.Core.Path.{_≡_}
 use mathlib.Core.List.{List, _∷_}
 use Rattle.text.specs.Buffer.{Reply, reply}
@@ -8,10 +8,21 @@ use Rattle.sheet.specs.Fields.{fieldsOfAll}
 use Rattle.sheet.specs.Memory.{fieldsFrom}
 use Rattle.sheet.specs.Memory.{mostFields}
 use Rattle.translate.specs.Answers.{Answer, whole, over}
+use Rattle.untranslate.specs.declared.Untranslated.{Untranslated}
+use Rattle.untranslate.specs.declared.Untranslated.the-variants.{Sheet, Missing}
+use Rattle.untranslate.specs.Answers.{Offer, readOff}
 
 abbrev pub answerNumber : Answer → ℕ
 answerNumber (whole t n) = t * 4294967296 + n
 answerNumber over = 18446744073709551615
+
+abbrev pub untranslatedNumber : Untranslated → ℕ
+untranslatedNumber (Sheet count from) = count * 4294967296 + from % 4294967296
+untranslatedNumber Missing = 18446744073709551615
+
+-- r is the number of an answer that offers this
+pub data Told (r : ℕ) (ks vs : List ℕ) : Offer → Type 0 where
+  told : (a : Untranslated) → r ≡ untranslatedNumber a → Told r ks vs (readOff a ks vs)
 
 abbrev pub replyNumber : Reply → ℕ
 replyNumber (reply n value) = n * 4294967296 + value

@@ -2,16 +2,21 @@
 // (include/skimp.h).
 use sheet_text::Written;
 use translate::Translated;
+use untranslate::Untranslated;
 ghost use mathlib.Core.Path.{_≡_};
-ghost use Prim.Native.Nat.{_+_};
+ghost use Prim.Native.Nat.{_+_, _≤_};
 ghost use lib.ListN.{length};
 ghost use Rattle.text.specs.Buffer.{filledWith};
-ghost use Rattle.order.specs.Order.{number, operand};
+ghost use Rattle.order.specs.Limits.{mostVariables, mostOrders};
+ghost use Rattle.order.specs.Order.{number, operand, ordersFrom};
 ghost use Rattle.sheet.specs.Translation.{orders, instructionTemporaries};
 ghost use Rattle.sheet.specs.Fields.{instructionFields};
+ghost use Rattle.sheet.specs.Memory.{mostFields};
+ghost use Rattle.sheet.specs.ReadBack.{untranslate};
 ghost use Rattle.translate.specs.Answers.{OfSheet, answerFor, filledFor};
+ghost use Rattle.untranslate.specs.Answers.{offered};
 ghost use Rattle.sheet_text.specs.Answers.{ForText, replyFor};
-ghost use Rattle.sheet_probe.specs.Reply.{answerNumber, replyNumber, OfInstruction};
+ghost use Rattle.sheet_probe.specs.Reply.{answerNumber, replyNumber, OfInstruction, Told};
 
 // T * 2^32 + N, or 2^64 - 1 where a limit is passed.
 #[no_mangle]
@@ -58,6 +63,27 @@ pub extern "C" fn sheet_probe_behind(kinds: &[u8], values: &[u32], n: usize, at:
 {
     let size = translate::size::size_of(kinds, values, n, at);
     size.at
+}
+
+// The number of instructions * 2^32 + the place from which on the fields stand, or 2^64 - 1 where there is no sheet.
+#[no_mangle]
+pub extern "C" fn sheet_probe_untranslate(
+    numbers: &[u8],
+    operands: &[u32],
+    n: u32,
+    v: u32,
+    t: u32,
+    kinds: &mut [u8],
+    values: &mut [u32],
+) -> u64
+    ensures { λ r. ⌜ (n ≤ mostOrders → v ≤ mostVariables → length (now (kinds .entry)) ≡ mostFields → length (now (values .entry)) ≡ mostFields → Told r (now (kinds .exit)) (now (values .exit)) (offered (untranslate v t (ordersFrom 0 n (now (numbers .entry)) (now (operands .entry)))))) ⌝ }
+{
+    match untranslate::untranslate(numbers, operands, n, v, t, kinds, values) {
+        Untranslated::Sheet(count, from) => {
+            count as u64 * 4294967296 + (from % 4294967296) as u64
+        }
+        Untranslated::Missing => 18446744073709551615,
+    }
 }
 
 // The length of the text, or 32 * 2^32 where the buffer is too short.

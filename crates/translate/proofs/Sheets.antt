@@ -12,8 +12,7 @@ use Rattle.order.specs.declared.Order.{Order}
 use Rattle.order.specs.declared.Order.the-variants.{Jump, Stop}
 use Rattle.order.specs.Order.{number, operand}
 use Rattle.order.specs.Limits.{mostVariables, mostTemporaries, mostOrders}
-use Rattle.sheet.specs.Sheet.{Simple, set, send, goto, Instruction, simple, when, either, Sheet, sheet, variables}
-use Rattle.sheet.specs.Sheet.{instructions}
+use Rattle.sheet.specs.Sheet.{Simple, set, send, goto, Instruction, simple, when, either, Sheet, sheet}
 use Rattle.sheet.specs.Within.{Leads, SimpleFormed, InstructionFormed, AllFormed, Formed}
 use Rattle.sheet.specs.Fields.{fieldsOfAll}
 use Rattle.sheet.specs.Memory.{fieldsFrom}

@@ -219,7 +219,7 @@ fn put_either(
     values: &[u32],
     n: usize,
     at: usize,
-    relation: Relation,
+    s: Relation,
     orders: u32,
     word: u32,
     firsts: &[u32],
@@ -229,11 +229,12 @@ fn put_either(
 ) -> Spot
     requires { ⌜ Room n at word (i + 2) × (orders ≤ 20000) ⌝ }
     ensures { λ r. ⌜ Putting n at 2 (now (kinds .entry)) (now (values .entry))
-        (eitherBy (now (firsts .entry)) word relation orders) i r
+        (eitherBy (now (firsts .entry)) word s orders) i r
         (placed i (now (numbers .entry)) (now (operands .entry)))
         (placed (r .i) (now (numbers .exit)) (now (operands .exit))) ⌝ }
 {
-    let o = Order::Branch(opposite_of(relation), i + orders + 2);
+    let away = opposite_of(s);
+    let o = Order::Branch(away, i + orders + 2);
     let j = put_order(numbers, operands, i, o);
     let first = put_simple(kinds, values, n, at, word, firsts, numbers, operands, j);
     put_else(
@@ -255,7 +256,7 @@ fn put_choice(
     values: &[u32],
     n: usize,
     at: usize,
-    relation: Relation,
+    s: Relation,
     word: u32,
     firsts: &[u32],
     numbers: &mut [u8],
@@ -264,7 +265,7 @@ fn put_choice(
 ) -> Spot
     requires { ⌜ Room n at word (i + 2) ⌝ }
     ensures { λ r. ⌜ Putting n at 2 (now (kinds .entry)) (now (values .entry))
-        (choiceBy (now (firsts .entry)) word relation) i r
+        (choiceBy (now (firsts .entry)) word s) i r
         (placed i (now (numbers .entry)) (now (operands .entry)))
         (placed (r .i) (now (numbers .exit)) (now (operands .exit))) ⌝ }
 {
@@ -275,7 +276,7 @@ fn put_choice(
             values,
             n,
             at,
-            relation,
+            s,
             first.orders,
             word,
             firsts,
@@ -284,7 +285,8 @@ fn put_choice(
             i,
         );
     }
-    let o = Order::Branch(opposite_of(relation), i + first.orders + 1);
+    let away = opposite_of(s);
+    let o = Order::Branch(away, i + first.orders + 1);
     let j = put_order(numbers, operands, i, o);
     put_simple(kinds, values, n, at, word, firsts, numbers, operands, j)
 }
@@ -295,7 +297,7 @@ fn put_if(
     values: &[u32],
     n: usize,
     at: usize,
-    relation: Relation,
+    s: Relation,
     word: u32,
     firsts: &[u32],
     numbers: &mut [u8],
@@ -304,28 +306,19 @@ fn put_if(
 ) -> Spot
     requires { ⌜ Room n at (word + 1) (i + 6) ⌝ }
     ensures { λ r. ⌜ Putting n at 6 (now (kinds .entry)) (now (values .entry))
-        (ifBy (now (firsts .entry)) word relation) i r
+        (ifBy (now (firsts .entry)) word s) i r
         (placed i (now (numbers .entry)) (now (operands .entry)))
         (placed (r .i) (now (numbers .exit)) (now (operands .exit))) ⌝ }
 {
-    let test = put_operands(
-        kinds,
-        values,
-        n,
-        at,
-        Operation::Cmp,
-        word,
-        numbers,
-        operands,
-        i,
-    );
-    let at = past(n, test.at);
+    let f = Operation::Cmp;
+    let test = put_operands(kinds, values, n, at, f, word, numbers, operands, i);
+    let behind = past(n, test.at);
     put_choice(
         kinds,
         values,
         n,
-        at,
-        relation,
+        behind,
+        s,
         word,
         firsts,
         numbers,

@@ -1,11 +1,22 @@
-//! The rules of document 01 in plain Rust. The tests compare the archive with it, and the
-//! benchmark measures the archive against it, so it is written for speed. It shares no code with
-//! the archive.
+//! The rules of document 01 in plain Rust. The tests compare the archives with it, and the
+//! benchmark measures the archive's run against its own, so that is written for speed. It shares no
+//! code with the archives.
+//!
+//! Besides the rules there is what the tests of this workspace share: random numbers and sheets
+//! (`random`, `generate`), what was covered (`census`), and runs held to a meaning (`runs`).
 
 #![forbid(unsafe_code)]
 
+pub mod census;
+pub mod generate;
+pub mod interpret;
 mod machine;
-mod object;
+pub mod object;
+pub mod random;
+pub mod runs;
+pub mod sheet;
+pub mod translate;
+pub mod untranslate;
 
 use machine::State;
 use object::Object;

@@ -1,13 +1,13 @@
-//! Reading object text.
+//! Orders and object text.
 
 use crate::Reply;
 
-const MOST_VARIABLES: u32 = 64;
-const MOST_TEMPORARIES: u32 = 32;
+pub const MOST_VARIABLES: u32 = 64;
+pub const MOST_TEMPORARIES: u32 = 32;
 pub const MOST_ORDERS: usize = 1024;
 /// Words 0 and 1 of the frame are the link words, which no order may name.
-const LINK_WORDS: u32 = 2;
-const MOST_NUMBER: u32 = 2_147_483_647;
+pub const LINK_WORDS: u32 = 2;
+pub const MOST_NUMBER: u32 = 2_147_483_647;
 
 const BAD_HEADER: u32 = 21;
 const BAD_LINE: u32 = 22;
@@ -15,7 +15,7 @@ const BAD_WORD: u32 = 23;
 const BAD_ADDRESS: u32 = 24;
 const BAD_STOP: u32 = 25;
 
-#[derive(Clone, Copy, PartialEq, Eq)]
+#[derive(Clone, Copy, Debug, PartialEq, Eq)]
 #[rustfmt::skip]
 pub enum Name {
     Load, Add, Sub, Mlt, Div, Exp, Shl, Shr, And, Or, Xor, Cmp,
@@ -25,7 +25,7 @@ pub enum Name {
 }
 
 /// What an order's number is.
-#[derive(Clone, Copy, PartialEq, Eq)]
+#[derive(Clone, Copy, Debug, PartialEq, Eq)]
 pub enum Kind {
     Word,
     Number,
@@ -33,18 +33,57 @@ pub enum Kind {
     Nothing,
 }
 
-#[derive(Clone, Copy)]
+#[derive(Clone, Copy, Debug, PartialEq, Eq)]
 pub struct Order {
     pub name: Name,
     pub kind: Kind,
     pub number: u32,
 }
 
-const STOP: Order = Order {
+pub const STOP: Order = Order {
     name: Name::Stop,
     kind: Kind::Nothing,
     number: 0,
 };
+
+impl Order {
+    /// The order's number where orders stand in memory, from 0 to 35.
+    pub fn code(self) -> u8 {
+        let from = |first: Name| self.name as u8 - first as u8;
+        match (self.name, self.kind) {
+            (Name::Stop, _) => 0,
+            (Name::Send, _) => 1,
+            (Name::Neg, _) => 2,
+            (Name::Not, _) => 3,
+            (_, Kind::Address) => 4 + from(Name::Jmp),
+            (Name::Str, _) => 11,
+            (_, Kind::Number) => 24 + from(Name::Load),
+            _ => 12 + from(Name::Load),
+        }
+    }
+
+    /// The order's record, without its newline.
+    fn record(self) -> String {
+        let kind = match self.kind {
+            Kind::Word => 'D',
+            Kind::Number => 'K',
+            Kind::Address => 'A',
+            Kind::Nothing => '-',
+        };
+        let name = format!("{:?}", self.name).to_uppercase();
+        format!("{name}\t{kind}\t{}", self.number)
+    }
+}
+
+/// The text of an object.
+pub fn text(variables: u32, temporaries: u32, orders: &[Order]) -> String {
+    let mut text = format!("BOX\t{variables}\t{temporaries}\t{}\n", orders.len());
+    for order in orders {
+        text += &order.record();
+        text.push('\n');
+    }
+    text
+}
 
 /// A good object.
 pub struct Object {

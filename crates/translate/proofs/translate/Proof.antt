@@ -1,5 +1,6 @@
 use borrow.Author.Needs.{needs}
 use Prim.Native.Nat.{ℕ}
+use native.Mathlib.Omega.{arith}
 use lib.ListN.{length-replicate}
 use Rattle.sheet.specs.Sheet.{sheet}
 use Rattle.translate.proofs.Within.{variables-over}
@@ -32,7 +33,7 @@ returns-4 c =
     let at-start = at-total-size .before .before .before .before .before .before .before .before in
     let a = at-start .args in
     refused (a .kinds .now) (a .values .now) _ _
-    (λ is e. total-orders-over _ _ _ _ is e _ _ _ (at-total-size .total-size .ensures) (c .if4 .taken)) _ _
+    (λ is e. total-orders-over _ _ _ _ is e _ _ _ (at-total-size .total-size .ensures) (omega (arith, c .if4 .taken))) _ _
 
 returns-5 : tie.Need-returns-5
 returns-5 c =
@@ -43,7 +44,7 @@ returns-5 c =
     let at-if2 = at-total-size .before .before in
     let p = at-put-all .put-all .ensures in
     accepted _ _ _ _ _ _ _ (at-total-size .total-size .ensures) (length-replicate {A = ℕ} 1025 0) (at-if3 .if3 .left)
-    (at-if4 .if4 .left) (at-if2 .if2 .left) _ _ _ _ (p .0) (p .1)
+    (omega (arith, at-if4 .if4 .left)) (at-if2 .if2 .left) _ _ _ _ (p .0) (p .1)
 
 pub translate-spec : {M : Type 1} → statement M
 translate-spec =

@@ -1,6 +1,6 @@
 //! Ways to damage an object text.
 
-use crate::random::Random;
+use skimp_reference::random::Random;
 
 pub type Damage = fn(&mut Random, &mut Vec<u8>);
 

@@ -2,10 +2,11 @@
 
 use std::collections::BTreeSet;
 
+use skimp_reference::random::Random;
+
 use crate::call::{Call, REFUSALS};
 use crate::damage::{BYTES, DAMAGES};
 use crate::program::{random_state, Program, STYLES};
-use crate::random::Random;
 
 const TEXTS_OF_EACH: usize = 2500;
 

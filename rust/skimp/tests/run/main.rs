@@ -7,7 +7,6 @@ mod damaged;
 mod orders;
 mod program;
 mod programs;
-mod random;
 mod refusals;
 mod splits;
 mod states;

@@ -1,8 +1,9 @@
 //! Each order by itself.
 
+use skimp_reference::random::{Random, EDGES};
+
 use crate::call::Call;
 use crate::program::{order, state, Order, Program, WITH_ADDRESS, WITH_NOTHING, WITH_VALUE};
-use crate::random::{Random, EDGES};
 
 const RANDOM_PAIRS: usize = 300;
 /// Where the order stands, and where it leads if it is a jump.

@@ -1,7 +1,8 @@
 //! Random good objects that no compiler would make, and states to run them from.
 
+use skimp_reference::random::Random;
+
 use crate::call::Call;
-use crate::random::Random;
 
 pub const WITH_VALUE: [&str; 12] = [
     "LOAD", "ADD", "SUB", "MLT", "DIV", "EXP", "SHL", "SHR", "AND", "OR", "XOR", "CMP",

@@ -1,8 +1,9 @@
 //! Whole runs of random good objects.
 
+use skimp_reference::random::Random;
+
 use crate::call::Call;
 use crate::program::{random_call, Program, Style, MOST_ORDERS, STYLES};
-use crate::random::Random;
 
 const PROGRAMS: usize = 6000;
 /// Runs of each program, from different states.

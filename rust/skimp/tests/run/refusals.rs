@@ -1,8 +1,9 @@
 //! Object texts with the number and the place of their refusal, by document 01's rules.
 
+use skimp_reference::random::Random;
+
 use crate::call::Call;
 use crate::program::{state, Program};
-use crate::random::Random;
 
 /// Headers refused with 21.
 #[rustfmt::skip]

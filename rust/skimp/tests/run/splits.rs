@@ -1,8 +1,9 @@
 //! Running a and then b more steps over one output does what running a + b steps does.
 
+use skimp_reference::random::Random;
+
 use crate::call::{Call, Outcome};
 use crate::program::{random_call, Program, Style};
-use crate::random::Random;
 
 const PROGRAMS: usize = 800;
 const MOST_BUDGET: usize = 64;

@@ -26,7 +26,7 @@ returns-2 c =
     let o = at-put-order .put-order .ensures in
     let u = at-simple-size .simple-size in
     let branch =
-    branch-put (a .i) (a .numbers .now) (a .operands .now) _ (a .relation) (at-opposite-of .opposite-of .ensures)
+    branch-put (a .i) (a .numbers .now) (a .operands .now) _ (a .s) (at-opposite-of .opposite-of .ensures)
     (u .result .orders) 1 _ (o .1) in
     without-else-put _ _ _ _ _ _ _ _ _ _ (u .ensures .0) (sym (at-else-at .else-at .ensures) ∙ at-if1 .if1 .left) _ _
     (o .0) branch _ _ (at-put-simple .put-simple .ensures .0)

@@ -13,7 +13,7 @@ returns c =
     let a = at-start .args in
     let o = at-put-order .put-order .ensures in
     let branch =
-    branch-put (a .i) (a .numbers .now) (a .operands .now) _ (a .relation) (at-opposite-of .opposite-of .ensures)
+    branch-put (a .i) (a .numbers .now) (a .operands .now) _ (a .s) (at-opposite-of .opposite-of .ensures)
     (a .orders) 2 _ (o .1) in
     either-put _ _ _ _ _ _ _ _ _ _ _ _ (o .0) branch _ _ (at-put-simple .put-simple .ensures .0) _ _
     (at-put-else .put-else .ensures)

@@ -1,0 +1,12 @@
+pub mod Putting
+pub mod Loops
+pub mod Cycle
+pub mod Agreement
+pub mod Fields
+pub mod Wholes
+pub mod Simples
+pub mod Instructions
+pub mod Sheets
+pub mod Untranslating
+pub mod Temporaries
+pub mod ExpressionAgrees

@@ -1,0 +1,335 @@
+//! Random sheets, of exactly so many orders.
+
+use crate::object::{Order, STOP};
+use crate::object::{MOST_NUMBER, MOST_ORDERS, MOST_TEMPORARIES, MOST_VARIABLES};
+use crate::random::Random;
+use crate::sheet::{Expression, Instruction, Operator, Relation, Sheet, Simple};
+use crate::sheet::{OPERATORS, RELATIONS, SIGNS};
+use crate::translate::without_limits;
+
+/// What a random sheet is to be like.
+#[derive(Clone, Copy)]
+pub struct Plan {
+    pub variables: u32,
+    /// How many temporaries its expressions may use.
+    pub temporaries: u32,
+    /// Few operations of it may fault.
+    pub calm: bool,
+    /// No GOTO leads back, so that it ends.
+    pub forward: bool,
+    /// Its last two instructions count up a variable that no other sets, and lead back to the
+    /// first until so many rounds are done. They have `LOOP` orders.
+    pub rounds: Option<u32>,
+}
+
+/// The orders of the instructions that make a loop.
+const LOOP: usize = 7;
+
+/// Where an expression has its operands that are not plain.
+#[derive(Clone, Copy)]
+enum Nesting {
+    /// In the left operand only: a chain without temporaries.
+    Left,
+    /// In the right operand, as long as there are temporaries.
+    Right,
+    Both,
+}
+
+impl Plan {
+    pub fn random(random: &mut Random) -> Plan {
+        let most = MOST_VARIABLES as usize;
+        let variables = match random.below(8) {
+            0 => random.pick(&[0, 1, most - 1, most]),
+            1 => random.between(0, most),
+            _ => random.between(1, 5),
+        };
+        Plan {
+            variables: variables as u32,
+            temporaries: match random.below(2) {
+                0 => random.below(MOST_TEMPORARIES as usize) as u32,
+                _ => MOST_TEMPORARIES,
+            },
+            calm: !random.once_in(4),
+            forward: random.once_in(2),
+            rounds: random.once_in(3).then(|| random.between(1, 20) as u32),
+        }
+    }
+
+    /// A sheet of a few orders.
+    pub fn small_sheet(random: &mut Random) -> Sheet {
+        let orders = random.between(1, 40);
+        Plan::random(random).sheet(random, orders)
+    }
+
+    /// A sheet of up to the most orders, often of exactly as many.
+    pub fn large_sheet(random: &mut Random) -> Sheet {
+        let orders = match random.below(4) {
+            0 => random.between(40, MOST_ORDERS),
+            1 => random.between(MOST_ORDERS - 3, MOST_ORDERS),
+            _ => MOST_ORDERS,
+        };
+        Plan::random(random).sheet(random, orders)
+    }
+
+    /// A random sheet whose V, T and N are exactly these. T is not 1, since a binary that needs
+    /// temporaries needs two. With `one`, its only instruction has all orders but STOP.
+    ///
+    /// # Panics
+    ///
+    /// If there is none among many sheets with this V and N.
+    pub fn exact_sheet(random: &mut Random, size: [u32; 3], one: bool) -> Sheet {
+        let [variables, temporaries, orders] = size;
+        for _ in 0..10_000 {
+            let plan = Plan {
+                variables,
+                temporaries,
+                rounds: None,
+                ..Plan::random(random)
+            };
+            let first = random.between(orders as usize / 2, orders as usize - 2);
+            let sizes = [first, orders as usize - 1 - first];
+            let sheet = match one {
+                true => plan.sheet_of(random, &[orders as usize - 1]),
+                false => plan.sheet_of(random, &sizes),
+            };
+            if without_limits(&sheet).temporaries == temporaries {
+                return sheet;
+            }
+        }
+        panic!("no sheet with V, T and N {size:?}");
+    }
+
+    /// A random sheet whose translation has `orders` orders, STOP included.
+    pub fn sheet(self, random: &mut Random, orders: usize) -> Sheet {
+        let mut left = orders - 1;
+        let plan = match self.rounds {
+            Some(_) if left >= LOOP && self.variables > 0 => self,
+            _ => Plan {
+                rounds: None,
+                ..self
+            },
+        };
+        if plan.rounds.is_some() {
+            left -= LOOP;
+        }
+        let mut sizes = Vec::new();
+        while left > 0 {
+            let size = match random.below(64) {
+                0..=7 => 1,
+                8..=55 => random.between(2, 14),
+                56..=62 => random.between(2, 60),
+                _ => random.between(2, MOST_ORDERS),
+            };
+            sizes.push(size.min(left));
+            left -= size.min(left);
+        }
+        plan.sheet_of(random, &sizes)
+    }
+
+    /// A random sheet with an instruction for each size, of as many orders, and the loop if there
+    /// is to be one.
+    pub fn sheet_of(self, random: &mut Random, sizes: &[usize]) -> Sheet {
+        let count = sizes.len() + 2 * usize::from(self.rounds.is_some());
+        let mut maker = Maker {
+            random,
+            plan: self,
+            words: self.variables - u32::from(self.rounds.is_some()),
+            number: 0,
+            count: count as u32,
+            nesting: Nesting::Both,
+        };
+        let mut instructions = Vec::with_capacity(count);
+        for &size in sizes {
+            maker.number += 1;
+            instructions.push(maker.instruction(size));
+        }
+        if let Some(rounds) = self.rounds {
+            let counter = || Box::new(Expression::Word(self.variables + 1));
+            let one = Box::new(Expression::Constant(1));
+            let sum = Expression::Binary(Operator::Add, counter(), one);
+            instructions.push(Instruction::Simple(Simple::Set(self.variables + 1, sum)));
+            instructions.push(Instruction::If {
+                relation: Relation::Less,
+                left: *counter(),
+                right: Expression::Constant(rounds),
+                then: Simple::Goto(1),
+                otherwise: None,
+            });
+        }
+        Sheet {
+            variables: self.variables,
+            instructions,
+        }
+    }
+}
+
+struct Maker<'r> {
+    random: &'r mut Random,
+    plan: Plan,
+    /// How many variables may be named.
+    words: u32,
+    /// The instruction's number, from 1, and how many there are.
+    number: u32,
+    count: u32,
+    nesting: Nesting,
+}
+
+impl Maker<'_> {
+    /// An instruction of `orders` orders.
+    fn instruction(&mut self, orders: usize) -> Instruction {
+        let has_else = orders >= 6 && self.random.once_in(2);
+        if orders < 4 || self.random.once_in(3) {
+            return Instruction::Simple(self.simple(orders));
+        }
+        // the branch, and with ELSE the JMP; the comparison has at least two orders
+        let left = orders - 1 - usize::from(has_else);
+        let most = left - 2 - usize::from(has_else);
+        let then = self.part(most);
+        let second = if has_else {
+            self.part(left - 2 - then)
+        } else {
+            0
+        };
+        self.choose_nesting();
+        let (left, right) = self.operands(left - then - second, self.plan.temporaries);
+        Instruction::If {
+            relation: self.random.pick(&RELATIONS).0,
+            left,
+            right,
+            then: self.simple(then),
+            otherwise: has_else.then(|| self.simple(second)),
+        }
+    }
+
+    /// From 1 to `most`, mostly few.
+    fn part(&mut self, most: usize) -> usize {
+        match self.random.below(4) {
+            0 => 1,
+            1 => self.random.between(1, most),
+            _ => self.random.between(1, most.min(6)),
+        }
+    }
+
+    fn simple(&mut self, orders: usize) -> Simple {
+        if orders == 1 {
+            return Simple::Goto(self.target());
+        }
+        self.choose_nesting();
+        let value = self.expression(orders - 1, self.plan.temporaries);
+        if self.words > 0 && !self.random.once_in(4) {
+            Simple::Set(self.word(), value)
+        } else {
+            Simple::Send(value)
+        }
+    }
+
+    fn choose_nesting(&mut self) {
+        self.nesting = match self.random.below(4) {
+            0 => Nesting::Left,
+            1 => Nesting::Right,
+            _ => Nesting::Both,
+        };
+    }
+
+    /// Where a GOTO leads: any instruction, or the end.
+    fn target(&mut self) -> u32 {
+        let first = if self.plan.forward {
+            self.number + 1
+        } else {
+            1
+        };
+        let end = self.count + 1;
+        match self.random.below(6) {
+            0 => end,
+            1 => first,
+            2 => end.min(self.number + 1),
+            _ => self.random.between(first as usize, end as usize) as u32,
+        }
+    }
+
+    /// An expression of `orders` orders that uses at most `room` temporaries.
+    fn expression(&mut self, orders: usize, room: u32) -> Expression {
+        if orders == 1 {
+            return self.plain();
+        }
+        if self.random.once_in(6) {
+            let operand = self.expression(orders - 1, room);
+            return Expression::Unary(self.random.pick(&SIGNS).0, Box::new(operand));
+        }
+        let (left, mut right) = self.operands(orders, room);
+        let mut operator = self.random.pick(&OPERATORS).0;
+        if self.plan.calm && !self.random.once_in(16) {
+            let harmless = match operator {
+                Operator::Div => Some(self.random.between(1, 9)),
+                Operator::Pow => Some(self.random.below(9)),
+                Operator::Shl | Operator::Shr => Some(self.random.below(32)),
+                _ => None,
+            };
+            match harmless {
+                Some(number) if right.is_plain() => right = Expression::Constant(number as u32),
+                Some(_) => operator = Operator::Sub,
+                None => {}
+            }
+        }
+        Expression::Binary(operator, Box::new(left), Box::new(right))
+    }
+
+    /// Two operands which, with the order on them, have `orders` orders.
+    fn operands(&mut self, orders: usize, room: u32) -> (Expression, Expression) {
+        // two temporaries; the left of one order, the right of two, and four around them
+        let may_nest = room >= 2 && orders >= 7;
+        let most = orders.saturating_sub(5);
+        let right = match self.nesting {
+            _ if !may_nest => 1,
+            Nesting::Left => 1,
+            Nesting::Right => most,
+            Nesting::Both if self.random.once_in(3) => 1,
+            Nesting::Both => self.random.between(2, most),
+        };
+        if right == 1 {
+            return (self.expression(orders - 1, room), self.plain());
+        }
+        let left = self.expression(orders - 4 - right, room);
+        (left, self.expression(right, room - 1))
+    }
+
+    fn plain(&mut self) -> Expression {
+        if self.words > 0 && self.random.once_in(2) {
+            return Expression::Word(self.word());
+        }
+        Expression::Constant(match self.random.below(8) {
+            0..=3 => self.random.below(10) as u32,
+            4..=5 => self.random.below(41) as u32,
+            6 => self.random.pattern() & MOST_NUMBER,
+            _ => self.random.bits() as u32 & MOST_NUMBER,
+        })
+    }
+
+    /// A word that the sheet may name.
+    fn word(&mut self) -> u32 {
+        let last = self.words as usize + 1;
+        match self.random.below(4) {
+            0 => last as u32,
+            1 => self.random.between(2, last) as u32,
+            _ => self.random.between(2, last.min(4)) as u32,
+        }
+    }
+}
+
+/// Visits every list of so many of the orders, with STOP behind it.
+pub fn every_list(orders: &[Order], length: usize, mut visit: impl FnMut(&[Order])) {
+    let mut turns = vec![0; length];
+    let mut list = vec![orders[0]; length];
+    list.push(STOP);
+    loop {
+        visit(&list);
+        // the next list: the first place that is not at its last order moves on
+        let Some(place) = turns.iter().position(|&turn| turn + 1 < orders.len()) else {
+            return;
+        };
+        turns[..place].fill(0);
+        list[..place].fill(orders[0]);
+        turns[place] += 1;
+        list[place] = orders[turns[place]];
+    }
+}

@@ -1,0 +1,188 @@
+//! The meaning of a program, laid down on its instructions and the word arithmetic. No order
+//! appears in it: the counts are those of document 01's rules for each form.
+
+use crate::sheet::{Expression, Instruction, Operator, Relation, Sheet, Sign, Simple};
+
+/// How a program ends, with document 01's numbers of faults and `skimp_run`'s number of a stop.
+#[derive(Clone, Copy, Debug, PartialEq, Eq)]
+pub enum Ending {
+    ZeroDivisor = 1,
+    NegativeExponent = 2,
+    ShiftCount = 3,
+    OutputFull = 4,
+    Stopped = 20,
+}
+
+/// A program after some of its instructions.
+pub struct Meaning<'a> {
+    sheet: &'a Sheet,
+    /// How many numbers the output has room for.
+    room: usize,
+    /// The instruction to be done next, from 0. One past the last is the end.
+    next: usize,
+    pub variables: Vec<i32>,
+    pub sent: Vec<i32>,
+    /// The orders of the path so far.
+    pub count: u64,
+    pub ending: Option<Ending>,
+    /// How often each operator gave a value.
+    pub operations: [usize; 10],
+    /// How often each relation failed and held.
+    pub comparisons: [[usize; 2]; 6],
+}
+
+impl<'a> Meaning<'a> {
+    /// "Words start at 0."
+    pub fn new(sheet: &'a Sheet, room: usize) -> Meaning<'a> {
+        Meaning {
+            sheet,
+            room,
+            next: 0,
+            variables: vec![0; sheet.variables as usize],
+            sent: Vec::new(),
+            count: 0,
+            ending: None,
+            operations: [0; 10],
+            comparisons: [[0; 2]; 6],
+        }
+    }
+
+    /// Does one more instruction. The end, where the program stops, counts as one.
+    pub fn advance(&mut self) {
+        if self.ending.is_some() {
+            return;
+        }
+        let Some(instruction) = self.sheet.instructions.get(self.next) else {
+            self.count += 1;
+            self.ending = Some(Ending::Stopped);
+            return;
+        };
+        self.next += 1;
+        if let Err(fault) = self.instruction(instruction) {
+            self.ending = Some(fault);
+        }
+    }
+
+    fn instruction(&mut self, instruction: &Instruction) -> Result<(), Ending> {
+        match instruction {
+            Instruction::Simple(simple) => self.simple(simple),
+            Instruction::If {
+                relation,
+                left,
+                right,
+                then,
+                otherwise,
+            } => {
+                let (left, right) = self.operands(left, right)?;
+                // the comparison and the branch
+                self.count += 2;
+                let holds = holds(*relation, left, right);
+                self.comparisons[*relation as usize][usize::from(holds)] += 1;
+                match (holds, otherwise) {
+                    (true, None) => self.simple(then),
+                    (true, Some(_)) => {
+                        self.simple(then)?;
+                        // the jump over the second, unless the first has led away
+                        self.count += u64::from(!matches!(then, Simple::Goto(_)));
+                        Ok(())
+                    }
+                    (false, Some(otherwise)) => self.simple(otherwise),
+                    (false, None) => Ok(()),
+                }
+            }
+        }
+    }
+
+    fn simple(&mut self, simple: &Simple) -> Result<(), Ending> {
+        match simple {
+            Simple::Set(word, value) => {
+                let value = self.value(value)?;
+                self.variables[*word as usize - 2] = value;
+            }
+            Simple::Send(value) => {
+                let value = self.value(value)?;
+                if self.sent.len() >= self.room {
+                    return Err(Ending::OutputFull);
+                }
+                self.sent.push(value);
+            }
+            Simple::Goto(instruction) => self.next = *instruction as usize - 1,
+        }
+        self.count += 1;
+        Ok(())
+    }
+
+    fn value(&mut self, expression: &Expression) -> Result<i32, Ending> {
+        let value = match expression {
+            Expression::Word(_) | Expression::Constant(_) => self.plain(expression),
+            Expression::Unary(sign, operand) => {
+                let operand = self.value(operand)?;
+                match sign {
+                    Sign::Neg => operand.wrapping_neg(),
+                    Sign::Not => !operand,
+                }
+            }
+            Expression::Binary(operator, left, right) => {
+                let (left, right) = self.operands(left, right)?;
+                let value = combined(*operator, left, right)?;
+                self.operations[*operator as usize] += 1;
+                value
+            }
+        };
+        self.count += 1;
+        Ok(value)
+    }
+
+    /// "Operands are worked out left first." What is not plain costs three orders besides its own:
+    /// the left is put away before it, then it is put away and the left fetched.
+    fn operands(&mut self, left: &Expression, right: &Expression) -> Result<(i32, i32), Ending> {
+        let left = self.value(left)?;
+        if right.is_plain() {
+            return Ok((left, self.plain(right)));
+        }
+        self.count += 1;
+        let right = self.value(right)?;
+        self.count += 2;
+        Ok((left, right))
+    }
+
+    fn plain(&self, expression: &Expression) -> i32 {
+        match expression {
+            Expression::Word(word) => self.variables[*word as usize - 2],
+            Expression::Constant(constant) => *constant as i32,
+            _ => unreachable!("not plain"),
+        }
+    }
+}
+
+/// "Sum, difference, product, negation and power wrap. Shifts are logical."
+fn combined(operator: Operator, left: i32, right: i32) -> Result<i32, Ending> {
+    let count = u32::try_from(right);
+    let shift = count.ok().filter(|&count| count < 32);
+    let shift = shift.ok_or(Ending::ShiftCount);
+    Ok(match operator {
+        Operator::Add => left.wrapping_add(right),
+        Operator::Sub => left.wrapping_sub(right),
+        Operator::Mul => left.wrapping_mul(right),
+        Operator::Div if right == 0 => return Err(Ending::ZeroDivisor),
+        Operator::Div => left.wrapping_div(right),
+        Operator::Pow => left.wrapping_pow(count.map_err(|_| Ending::NegativeExponent)?),
+        Operator::Shl => ((left as u32) << shift?) as i32,
+        Operator::Shr => ((left as u32) >> shift?) as i32,
+        Operator::And => left & right,
+        Operator::Or => left | right,
+        Operator::Xor => left ^ right,
+    })
+}
+
+/// "Comparison is signed and never wraps."
+fn holds(relation: Relation, left: i32, right: i32) -> bool {
+    match relation {
+        Relation::Equal => left == right,
+        Relation::Unequal => left != right,
+        Relation::Less => left < right,
+        Relation::AtMost => left <= right,
+        Relation::Greater => left > right,
+        Relation::AtLeast => left >= right,
+    }
+}

@@ -1,0 +1,83 @@
+//! Random sheets, translated and read back.
+
+use skimp_reference::census::Census;
+use skimp_reference::generate::Plan;
+use skimp_reference::random::Random;
+use skimp_reference::sheet::Sheet;
+use skimp_reference::translate::{counts, translate, without_limits};
+use skimp_reference::untranslate::untranslate;
+
+/// Translates a sheet and reads it back.
+fn check(census: &mut Census, sheet: &Sheet) {
+    let translation = translate(sheet).unwrap_or_else(|| panic!("refused:\n{}", sheet.text()));
+    let back = untranslate(&translation);
+    assert!(
+        back.as_ref() == Some(sheet),
+        "not read back:\n{}",
+        sheet.text()
+    );
+    let parts = sheet.instructions.iter().map(counts);
+    let (orders, temporaries) = parts.fold((1, 0), |(orders, temporaries), part| {
+        (orders + part.0, part.1.max(temporaries))
+    });
+    assert_eq!(orders as usize, translation.orders.len());
+    assert_eq!(temporaries, translation.temporaries);
+    census.add(sheet, &translation);
+}
+
+#[test]
+fn small_sheets() {
+    let mut random = Random(11);
+    let mut census = Census::default();
+    for _ in 0..100_000 {
+        check(&mut census, &Plan::small_sheet(&mut random));
+    }
+    assert_eq!(census.sheets, 100_000);
+    census.every_form("small sheets", 1000);
+    for orders in 1..=40 {
+        assert!(census.with_orders(orders) >= 1000, "{orders} orders");
+    }
+    assert!(census.with_instructions(0) >= 1000);
+}
+
+#[test]
+fn large_sheets() {
+    let mut random = Random(12);
+    let mut census = Census::default();
+    for _ in 0..2000 {
+        check(&mut census, &Plan::large_sheet(&mut random));
+    }
+    census.every_form("large sheets", 200);
+    // no sheet uses exactly one temporary
+    for temporaries in (0..=32).filter(|&temporaries| temporaries != 1) {
+        let count = census.with_temporaries(temporaries);
+        assert!(count >= 2, "{count} sheets with {temporaries}");
+    }
+    assert_eq!(census.with_temporaries(1), 0);
+    for variables in [0, 1, 63, 64] {
+        assert!(census.with_variables(variables) >= 10, "V {variables}");
+    }
+    assert!(census.with_orders(1024) >= 1000);
+}
+
+/// Sheets at the limits, and past one of them by one.
+#[test]
+fn limits() {
+    let mut random = Random(13);
+    let mut census = Census::default();
+    for one in [false, true] {
+        for _ in 0..50 {
+            let size = [64, 32, 1024];
+            check(&mut census, &Plan::exact_sheet(&mut random, size, one));
+            for over in [[65, 32, 1024], [64, 33, 1024], [64, 32, 1025]] {
+                let sheet = Plan::exact_sheet(&mut random, over, one);
+                assert!(translate(&sheet).is_none(), "{over:?}:\n{}", sheet.text());
+                assert!(untranslate(&without_limits(&sheet)).is_none(), "{over:?}");
+            }
+        }
+    }
+    assert_eq!(census.with_orders(1024), 100);
+    assert_eq!(census.with_temporaries(32), 100);
+    assert_eq!(census.with_variables(64), 100);
+    assert_eq!(census.with_instructions(1), 50);
+}
