@@ -1,7 +1,8 @@
 -- How a goal that is a choice is met: by the branch that its test takes.
 use Prim.Native.Nat.{ℕ, _<_, _≤_}
 use mathlib.Core.Bool.{Bool, true, false}
-use mathlib.Core.Path.{_≡_, refl, sym, _∙_}
+use mathlib.Core.Path.{_≡_, refl, sym, ap, _∙_}
+use native.Mathlib.Omega.{arith}
 use borrow.Author.Tests.{lt-ltb, le-ltb, le-leb, lt-leb, eq-eqb, ne-eqb, ltb-true, ltb-false, eqb-true, eqb-false}
 use lib.Dec.{ltb, eqb}
 use Rattle.base.specs.Choice.{pick}
@@ -46,6 +47,12 @@ pub chosen-second : {A : Type 0} (t : Bool) (a b c : A) → (a ≡ c → ⊥) �
 unfolding pick
 chosen-second true a b c not-first e = absurd (not-first e)
 chosen-second false a b c not-first e = (refl, e)
+
+-- a choice whose second part is no says yes only where its test holds and its first part says yes
+pub both-yes : (t u : Bool) → pick t u false ≡ true → (t ≡ true) × (u ≡ true)
+unfolding pick
+both-yes true u e = (refl, e)
+both-yes false u e = let z : _≡_ {A = ℕ} 0 1 = ap (λ b. pick b 1 0) e in absurd (omega arith)
 
 -- what holds of each part of a choice, where the test takes it, holds of the choice
 pub either-part : {A : Type 0} (P : A → Type 0) (t : Bool) (a b : A) → (t ≡ true → P a) → (t ≡ false → P b) → P (pick t a b)

@@ -1,7 +1,17 @@
-// What every other crate uses: here, reading and storing at any place. Behind the end of a slice 0 is read and nothing is
+// What several crates use: the larger of two numbers, and reading and storing at any place. Behind the end of a slice 0 is read and nothing is
 // stored, so these need no bounds. Definitions and laws are in specs/ and proofs/.
 ghost use mathlib.Core.Path.{_≡_};
+ghost use Prim.Native.Nat.{max};
 ghost use lib.ListN.{getD, set};
+
+pub fn larger(a: u32, b: u32) -> u32
+    ensures { λ r. ⌜ r ≡ max a b ⌝ }
+{
+    if a < b {
+        return b;
+    }
+    a
+}
 
 pub fn byte_at(bytes: &[u8], i: usize) -> u8
     ensures { λ r. ⌜ r ≡ getD (now (bytes .entry)) i 0 ⌝ }

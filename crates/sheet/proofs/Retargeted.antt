@@ -1,13 +1,12 @@
 -- Instructions whose jumps were given other targets.
 use Prim.Native.Nat.{ℕ, zero, suc, _+_, _<_, max}
 use mathlib.Core.Path.{_≡_, refl, ap, ap₂}
-use mathlib.Core.Bool.{Bool, true, false}
+use mathlib.Core.Bool.{true}
 use mathlib.Core.List.{List, [], _∷_}
-use native.Mathlib.Omega.{arith}
 use borrow.Author.Tests.{lt-ltb, ltb-true}
 use lib.ListN.{length, take}
 use Rattle.base.specs.Choice.{pick}
-use Rattle.base.proofs.Cases.{chosen-first}
+use Rattle.base.proofs.Cases.{both-yes}
 use Rattle.order.specs.declared.Order.the-variants.{Jump}
 use Rattle.sheet.specs.Sheet.{Simple, set, send, goto, Instruction, simple, when, either}
 use Rattle.sheet.specs.Translation.{simpleCode, instructionCode, instructionsCode, orders, ordersOfAll}
@@ -100,9 +99,6 @@ module _ (v n : ℕ) where
 
 -- ---- jumps to addresses, by way of the instructions there
 
-both-hold : (t u : Bool) → pick t u false ≡ true → (t ≡ true) × (u ≡ true)
-both-hold t u e = chosen-first t u false true (λ f. let z : _≡_ {A = ℕ} 0 1 = cc in omega arith) e
-
 module _ (v n : ℕ) (to back : ℕ → ℕ) (there : (a : ℕ) → 0 < back a → (to (back a) ≡ a) × Leads n (back a)) where
   simple-formed : (u : Simple) → SimpleShaped v u → leads (retarget back u) ≡ true → SimpleFormed v n (retarget back u)
   simple-formed (set w e) x y = x
@@ -117,7 +113,7 @@ module _ (v n : ℕ) (to back : ℕ → ℕ) (there : (a : ℕ) → 0 < back a �
   one-formed (simple u) x y = simple-formed u x y
   one-formed (when r a b u) x y = (x .0, x .1, simple-formed u (x .2) y)
   one-formed (either r a b u w) x y =
-      let both = both-hold (leads (retarget back u)) _ y in
+      let both = both-yes (leads (retarget back u)) _ y in
       (x .0, x .1, simple-formed u (x .2) (both .0), simple-formed w (x .3) (both .1))
 
   pub all-formed : (is : List Instruction) → Each (InstructionShaped v) is → leadsAll (retargetAll back is) ≡ true
@@ -125,7 +121,7 @@ module _ (v n : ℕ) (to back : ℕ → ℕ) (there : (a : ℕ) → 0 < back a �
   unfolding retargetAll leadsAll AllFormed
   all-formed [] x y = tt
   all-formed (i ∷ is) x y =
-      let both = both-hold (leadsOne (retargetOne back i)) _ y in
+      let both = both-yes (leadsOne (retargetOne back i)) _ y in
       (one-formed i (x .0) (both .0), all-formed is (x .1) (both .1))
 
   simple-code : (u : Simple) → leads (retarget back u) ≡ true → simpleCode v to (retarget back u) ≡ simpleCode v asRead u
@@ -138,7 +134,7 @@ module _ (v n : ℕ) (to back : ℕ → ℕ) (there : (a : ℕ) → 0 < back a �
   one-code p (simple u) y = simple-code u y
   one-code p (when r a b u) y = rw (simple-code u y)
   one-code p (either r a b u w) y =
-      let both = both-hold (leads (retarget back u)) _ y in
+      let both = both-yes (leads (retarget back u)) _ y in
       rw (simple-code u (both .0), simple-code w (both .1))
 
   pub all-code : (p : ℕ) (is : List Instruction) → leadsAll (retargetAll back is) ≡ true
@@ -146,5 +142,5 @@ module _ (v n : ℕ) (to back : ℕ → ℕ) (there : (a : ℕ) → 0 < back a �
   unfolding retargetAll leadsAll instructionsCode
   all-code p [] y = refl
   all-code p (i ∷ is) y =
-      let both = both-hold (leadsOne (retargetOne back i)) _ y in
+      let both = both-yes (leadsOne (retargetOne back i)) _ y in
       rw (one-code p i (both .0), all-code (p + length (instructionCode v asRead p i)) is (both .1))

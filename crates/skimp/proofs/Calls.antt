@@ -1,14 +1,14 @@
 -- A call of run: what the arrays and the bytes on the way come to.
 use Prim.Native.Nat.{ℕ, _+_, _*_, _≤_}
 use mathlib.Core.Path.{_≡_, refl, sym, ap, _∙_}
-use mathlib.Core.Bool.{Bool, true, false}
+use mathlib.Core.Bool.{true}
 use mathlib.Core.List.{List, _++_, map}
 use native.Mathlib.Omega.{arith}
 use borrow.Author.Tests.{eqb-true}
 use lib.ListN.{length, getD, take, length-map, List·getD-eq-default}
 use lib.Seq.{sets, length-take-le}
 use Rattle.base.specs.Choice.{pick}
-use Rattle.base.proofs.Cases.{by-less, pick-yes}
+use Rattle.base.proofs.Cases.{by-less, pick-yes, both-yes}
 use Rattle.base.proofs.Lists.{sets-append, sets-whole, getD-sets, getD-sets-behind}
 use Rattle.order.specs.declared.Order.{Order}
 use Rattle.order.specs.declared.Order.the-variants.{Stop}
@@ -57,12 +57,6 @@ left-call os budget n r ws out k s vs left st words registers e size =
     ∙ ap (λ l. ranCall (run os budget (machine (registersOf st) l out))) words
 
 -- ---- the state that fits
-
--- a choice whose second part is no says yes only where its test holds and its first part says yes
-pub both-yes : (t u : Bool) → pick t u false ≡ true → (t ≡ true) × (u ≡ true)
-unfolding pick
-both-yes true u e = (refl, e)
-both-yes false u e = let z : _≡_ {A = ℕ} 0 1 = ap (λ b. pick b 1 0) e in absurd (omega arith)
 
 fits-length : (words n : ℕ) (state output : List ℕ) → stateFits words n state output ≡ true → length state ≡ 20 + 4 * words
 unfolding stateFits

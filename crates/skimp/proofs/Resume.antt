@@ -10,7 +10,7 @@ use borrow.Author.Tests.{lt-ltb, le-ltb, eq-eqb, le-leb, ltb-true, leb-true, eqb
 use lib.Dec.{ltb, leb, eqb}
 use lib.ListN.{length}
 use Rattle.base.specs.Choice.{pick}
-use Rattle.base.proofs.Cases.{by-test}
+use Rattle.base.proofs.Cases.{by-test, both-yes}
 use Rattle.order.specs.declared.Order.{Order}
 use Rattle.order.specs.Object.{Reading, object, refused, reading}
 use Rattle.order.specs.Good.{Good}
@@ -25,7 +25,6 @@ use Rattle.machine.proofs.Frame.{lengths-stay, sent-within-room, ending-known, 
 use Rattle.skimp.specs.State.{numberAt, registersOf, wordsAt, stateBytes}
 use Rattle.skimp.specs.Run.{Call, call, reply, refusedCall, isEnding, ranCall, registersFit, stateFits, objectCall, readCall, runCall, replyOfBoth}
 use Rattle.skimp.proofs.Bytes.{number-four, length-words, length-state}
-use Rattle.skimp.proofs.Calls.{both-yes}
 use Rattle.skimp.proofs.Stored.{Held, registers-again, words-again}
 
 -- ---- the parts of a call

@@ -9,7 +9,7 @@ use crate::node::past;
 use crate::node::right_at;
 use sheet::MOST_FIELDS;
 ghost use mathlib.Core.Path.{_≡_};
-ghost use Prim.Native.Nat.{_≤_, max};
+ghost use Prim.Native.Nat.{_≤_};
 ghost use Rattle.translate.specs.Answers.{SizeAt};
 ghost use Rattle.translate.specs.Internal.{Inside, Sizing, Moves, sizeExpression, operandsBy, sizeSimple, sizeIf};
 ghost use Rattle.translate.specs.Internal.{sizeInstruction, Totals};
@@ -20,12 +20,6 @@ pub struct Size {
     pub at: usize,
     pub orders: u32,
     pub temporaries: u32,
-}
-
-fn larger(a: u32, b: u32) -> u32
-    ensures { λ r. ⌜ r ≡ max a b ⌝ }
-{
-    if a < b { b } else { a }
 }
 
 // An expression in prefix order.
@@ -73,7 +67,10 @@ fn operands_size(kinds: &[u8], values: &[u32], n: usize, at: usize) -> Size
             Size {
                 at: second.at,
                 orders: first.orders + second.orders + 4,
-                temporaries: larger(first.temporaries, larger(2, second.temporaries + 1)),
+                temporaries: base::larger(
+                    first.temporaries,
+                    base::larger(2, second.temporaries + 1),
+                ),
             }
         }
     }
@@ -120,13 +117,13 @@ fn if_size(kinds: &[u8], values: &[u32], n: usize, at: usize) -> Size
     let test = operands_size(kinds, values, n, at);
     let first = simple_size(kinds, values, n, past(n, test.at));
     let orders = test.orders + 1 + first.orders;
-    let temporaries = larger(test.temporaries, first.temporaries);
+    let temporaries = base::larger(test.temporaries, first.temporaries);
     if else_at(kinds, values, n, first.at) {
         let second = simple_size(kinds, values, n, past(n, first.at));
         return Size {
             at: second.at,
             orders: orders + 1 + second.orders,
-            temporaries: larger(temporaries, second.temporaries),
+            temporaries: base::larger(temporaries, second.temporaries),
         };
     }
     Size {
@@ -166,7 +163,7 @@ pub(crate) fn total_size(kinds: &[u8], values: &[u32], n: usize, firsts: &mut [u
         total = Size {
             at: one.at,
             orders: total.orders + one.orders,
-            temporaries: larger(total.temporaries, one.temporaries),
+            temporaries: base::larger(total.temporaries, one.temporaries),
         };
         k += 1;
     }

@@ -18,7 +18,7 @@ use order::MOST_ORDERS;
 use order::MOST_VARIABLES;
 use order::Order;
 ghost use mathlib.Core.Path.{_≡_};
-ghost use Prim.Native.Nat.{_≤_, max};
+ghost use Prim.Native.Nat.{_≤_};
 ghost use lib.ListN.{length};
 ghost use Rattle.order.specs.Order.{ordersFrom};
 ghost use Rattle.order.specs.Limits.{mostOrders, mostVariables};
@@ -71,15 +71,6 @@ fn used_by(o: Order, v: u32) -> u32
     }
 }
 
-fn larger(a: u32, b: u32) -> u32
-    ensures { λ r. ⌜ r ≡ max a b ⌝ }
-{
-    if a < b {
-        return b;
-    }
-    a
-}
-
 // The temporaries that the orders use.
 fn most_used(numbers: &[u8], operands: &[u32], n: u32, v: u32) -> u32
     ensures { λ r. ⌜ r ≡ mostUsed v (ordersFrom 0 n (now (numbers .entry)) (now (operands .entry))) ⌝ }
@@ -87,7 +78,7 @@ fn most_used(numbers: &[u8], operands: &[u32], n: u32, v: u32) -> u32
     let mut most = 0;
     let mut i: u32 = 0;
     while i < n {
-        most = larger(most, used_by(order_at(numbers, operands, i), v));
+        most = base::larger(most, used_by(order_at(numbers, operands, i), v));
         i += 1;
     }
     most

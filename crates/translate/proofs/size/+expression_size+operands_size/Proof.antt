@@ -15,7 +15,7 @@ use Rattle.translate.proofs.size.operands_size.Kinds as operands-size-k
 use Rattle.translate.proofs.size.+expression_size+operands_size.Lts-operands_size as operands-size-lts
 use Rattle.translate.proofs.node.node_at.Reads as node-at-reads
 use Rattle.translate.proofs.node.right_at.Reads as right-at-reads
-use Rattle.translate.proofs.size.larger.Reads as larger-reads
+use Rattle.base.proofs.larger.Reads as larger-reads
 use Rattle.translate.proofs.size.+expression_size+operands_size.{statement}
 use Rattle.translate.proofs.size.+expression_size+operands_size.Tie.{close}
 
