@@ -15,6 +15,7 @@ pub mod Reach
 pub mod ReadBack
 pub mod Retargeted
 pub mod Simulation
+pub mod Stored
 pub mod Targets
 pub mod Values
 pub mod Worked

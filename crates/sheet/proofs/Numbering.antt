@@ -25,7 +25,7 @@ pub last-numbered : (k v : ℕ) → 3 ≤ k → Goto v ≡ getD numberedFields k
 last-numbered k v h = ap (λ f. f v) (last-of (take 3 numberedFields) Goto k h)
 
 -- what stands in the middle of a list
-among : {A : Type 0} (before xs after : List A) (k : ℕ) (d : A) → k < length xs → getD (before ++ (xs ++ after)) (length before + k) d ≡ getD xs k d
+pub among : {A : Type 0} (before xs after : List A) (k : ℕ) (d : A) → k < length xs → getD (before ++ (xs ++ after)) (length before + k) d ≡ getD xs k d
 among before xs after k d h = getD-append-add before (xs ++ after) k d ∙ List·getD-append xs after d k h
 
 pub bare-again : (k v : ℕ) → k < 5 → getD bareFields k Not ≡ fieldOf k v

@@ -12,7 +12,7 @@ ghost use Rattle.sheet.specs.declared.Operator.the-variants.{Unlike};
 ghost use Rattle.sheet.specs.declared.Field.the-variants.{Not, Goto};
 ghost use Rattle.word.specs.declared.Relation.the-variants.{AtLeast};
 
-fn operator_number(o: Operator) -> u8
+pub fn operator_number(o: Operator) -> u8
     ensures numbered { λ r. ⌜ r ≡ operatorNumber o ⌝ }
     ensures few { λ r. ⌜ r < 10 ⌝ }
 {
@@ -30,7 +30,7 @@ fn operator_number(o: Operator) -> u8
     }
 }
 
-fn relation_number(s: Relation) -> u8
+pub fn relation_number(s: Relation) -> u8
     ensures numbered { λ r. ⌜ r ≡ relationNumber s ⌝ }
     ensures few { λ r. ⌜ r < 6 ⌝ }
 {
@@ -83,7 +83,7 @@ pub fn value_of(f: Field) -> u32
 }
 
 // The operator with a number below 10; !! for any other.
-fn operator(k: u8) -> Operator
+pub fn operator(k: u8) -> Operator
     ensures { λ r. ⌜ r ≡ getD operators k Unlike ⌝ }
 {
     match k {
@@ -101,7 +101,7 @@ fn operator(k: u8) -> Operator
 }
 
 // The relation with a number below 6; >= for any other.
-fn relation(k: u8) -> Relation
+pub fn relation(k: u8) -> Relation
     ensures { λ r. ⌜ r ≡ getD relations k AtLeast ⌝ }
 {
     match k {

@@ -2,11 +2,13 @@
 //! benchmark measures the archive's run against its own, so that is written for speed. It shares no
 //! code with the archives.
 //!
-//! Besides the rules there is what the tests of this workspace share: random numbers and sheets
-//! (`random`, `generate`), what was covered (`census`), and runs held to a meaning (`runs`).
+//! Besides the rules there is what the tests of this workspace share: random numbers, sheets and
+//! sources (`random`, `generate`, `writing`), what was covered (`census`), runs held to a meaning
+//! (`runs`), and readers of source held to the reference's (`agree`).
 
 #![forbid(unsafe_code)]
 
+pub mod agree;
 pub mod census;
 pub mod generate;
 pub mod interpret;
@@ -15,8 +17,10 @@ pub mod object;
 pub mod random;
 pub mod runs;
 pub mod sheet;
+pub mod source;
 pub mod translate;
 pub mod untranslate;
+pub mod writing;
 
 use machine::State;
 use object::Object;

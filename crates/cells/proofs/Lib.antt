@@ -1,0 +1,4 @@
+pub mod Letters
+pub mod Changes
+pub mod Steps
+pub mod Bytes

@@ -1,0 +1,210 @@
+-- The statements of a source, one after the other.
+use Prim.Native.Nat.{ℕ, suc, _+_, _≤_, _<_}
+use mathlib.Core.Path.{_≡_, refl, sym, ap, _∙_}
+use mathlib.Core.List.{List, [], _∷_, map}
+use native.Mathlib.Omega.{arith}
+use native.Mathlib.Numerals.{add-one}
+use lib.ListN.{length, drop}
+use Rattle.sheet.specs.Sheet.{Sheet, Instruction, simple, when, either, Simple, set, send, goto, variables, instructions}
+use Rattle.sheet.specs.Fields.{instructionFields}
+use Rattle.sheet.specs.Translation.{ordersOfAll}
+use Rattle.translate.proofs.Lengths.{instruction-twice}
+use Rattle.source.specs.declared.Mode.the-variants.{Plain}
+use Rattle.source.specs.Cells.{Statements, ended, cut, _then_, statementsFrom, statements}
+use Rattle.source.specs.Program.{Program, nothingRead, Placed, placed, instructionOf, Outcome, statement}
+use Rattle.base.specs.Choice.{pick}
+use Rattle.base.proofs.Cases.{by-test}
+use borrow.Author.Tests.{lt-ltb, le-ltb}
+use Rattle.source.specs.Source.{Answer, accepted, onOutcome, program, NotAllowed, isAllowed, notAllowed, offset, allAllowed, onAllowed, answer}
+use Rattle.cells.specs.declared.Found.{Found}
+use Rattle.cells.specs.declared.Found.the-variants.{At, Missing}
+use Rattle.cells.specs.Answers.{foundAt}
+use Rattle.source.specs.Memory.{held}
+use Rattle.cells.specs.declared.Next.{Next}
+use Rattle.cells.specs.declared.Reading.the-variants.{Statement, Ended, Cut}
+use Rattle.cells.specs.Answers.{unrolled, Moved, Within}
+use Rattle.front_end.specs.declared.statement.Progress.{Progress}
+use Rattle.front_end.specs.declared.statement.Step.{Step}
+use Rattle.front_end.specs.declared.statement.Step.the-variants.{Further, Refused, Given}
+use Rattle.front_end.specs.declared.Answer.the-variants.{Sheet as SheetIs}
+use Rattle.front_end.specs.Answers.{told, answered, fieldsOfSheet, refusedAt}
+use Rattle.front_end.specs.Internal.{Holds, Held, Comes, FewCounts, Rooms, Going, noProgress, placedFields, AllPacked}
+use Rattle.front_end.proofs.Steps.{says}
+use Rattle.tables.specs.Tables.{each}
+use Rattle.sheet.specs.Memory.{fieldsFrom}
+use Rattle.front_end.proofs.Placing.{fields-inside}
+
+-- ---- nothing was read
+
+pub starting : {source ns ls ks vs : List ℕ} → Rooms source ns ls ks vs → Going source 0 0 noProgress ns ls ks vs
+unfolding placedFields AllPacked ordersOfAll each fieldsFrom
+starting {source} {ns} {ls} {ks} {vs} room =
+    record {
+      so-far = nothingRead;
+      holds =
+          record {
+            parted = refl;
+            named = refl;
+            labelled = refl;
+            fielded = refl;
+            counted = refl;
+            ordered = λ v. refl;
+            packed = tt;
+            few-names = omega arith;
+            few-labels = omega arith;
+            few-orders = omega arith;
+            room-for-names = room .room-for-names;
+            room-for-labels = room .room-for-labels;
+            room-for-kinds = room .room-for-kinds;
+            room-for-values = room .room-for-values;
+          };
+      same = refl;
+      inside = omega arith;
+      fewer = omega arith;
+    }
+
+-- ---- an instruction has an order
+
+simple-some : (u : Simple) → 1 ≤ length (instructionFields (simple u))
+simple-some (set w e) = omega arith
+simple-some (send e) = omega arith
+simple-some (goto s) = omega arith
+
+some-fields : (i : Instruction) → 1 ≤ length (instructionFields i)
+some-fields (simple u) = simple-some u
+some-fields (when r a b u) = omega arith
+some-fields (either r a b u w) = omega arith
+
+placed-orders : (ps : List Placed) → length ps ≤ ordersOfAll 0 (map instructionOf ps)
+unfolding ordersOfAll
+placed-orders [] = omega arith
+placed-orders (placed k i ∷ ps) =
+    let a = placed-orders ps in
+    let b = instruction-twice 0 i in
+    let c = some-fields i in
+    omega (arith, a, b, c)
+
+pub few-counts : {q : Program} {p : Progress} {ns ls ks vs : List ℕ} → Holds q p ns ls ks vs → FewCounts p
+few-counts {q} {p} h =
+    let a = placed-orders (q .placed-in) in
+    let b = h .ordered 0 in
+    let c = h .counted in
+    let d = h .few-orders in
+    let e = fields-inside h in
+    (omega (arith, a, b, c, d), omega (arith, e), d)
+
+-- the sheet that is held
+held-told : {p : Progress} {ks vs : List ℕ} {s : Sheet} → Held p ks vs s → told (SheetIs (p .names) (p .instructions) (p .fields)) ks vs ≡ answered (accepted s)
+held-told {p} {ks} {vs} {s} h =
+    ap (λ v. fieldsOfSheet v (p .instructions) (fieldsFrom 0 (p .fields) ks vs)) (h .variables-too)
+    ∙ ap (λ n. fieldsOfSheet (variables s) n (fieldsFrom 0 (p .fields) ks vs)) (h .instructions-too)
+    ∙ ap (fieldsOfSheet (variables s) (length (instructions s))) (h .fields-too)
+
+-- ---- one statement
+
+module _ {source ns ls ks vs : List ℕ} {at k : ℕ} {p : Progress} (g : Going source at k p ns ls ks vs) where
+  left : Statements
+  left = statementsFrom Plain [] (drop at source)
+
+  whole : {r : Answer} → program (g .so-far) k (statementsFrom Plain [] (drop at source)) ≡ r → answered r ≡ answered (program nothingRead 0 (statements source))
+  whole e = ap answered (sym e ∙ g .same)
+
+  module _ (n : Next) (e : unrolled source n ≡ statementsFrom Plain [] (drop at source)) where
+    pub none-left : n .reading ≡ Ended → refusedAt 10 k ≡ answered (program nothingRead 0 (statements source))
+    unfolding program
+    none-left z = let t : ended ≡ statementsFrom Plain [] (drop at source) = rw z at e in whole (ap (program (g .so-far) k) (sym t))
+
+    pub next-cut : (m : ℕ) → n .reading ≡ Cut m → refusedAt m (k + 1) ≡ answered (program nothingRead 0 (statements source))
+    unfolding program
+    next-cut m z =
+        let t : cut m ≡ statementsFrom Plain [] (drop at source) = rw z at e in
+        ap (refusedAt m) (add-one k) ∙ whole (ap (program (g .so-far) k) (sym t))
+
+    module _ (after : ℕ) (z : n .reading ≡ Statement after) where
+      one-more : (held (n .statement)) then statementsFrom Plain [] (drop after source) ≡ statementsFrom Plain [] (drop at source)
+      one-more = rw z at e
+
+      goes-on : {o : Outcome} → statement (g .so-far) (k + 1) (held (n .statement)) ≡ o
+          → program (g .so-far) k (statementsFrom Plain [] (drop at source)) ≡ onOutcome o (λ q. program q (suc k) (statementsFrom Plain [] (drop after source)))
+      unfolding program
+      goes-on {o} s =
+          ap (program (g .so-far) k) (sym one-more)
+          ∙ ap
+          (λ r. onOutcome r (λ q. program q (suc k) (statementsFrom Plain [] (drop after source))))
+          (ap (λ j. statement (g .so-far) j (held (n .statement))) (sym (add-one k)) ∙ s)
+
+      module _ {ns′ ls′ ks′ vs′ : List ℕ} {r : Step} (one : Comes (λ o m. Holds o m ns′ ls′ ks′ vs′) (Held p ks′ vs′) r (statement (g .so-far) (k + 1) (held (n .statement)))) where
+        pub is-refused : (m j : ℕ) → r ≡ Refused m j → refusedAt m j ≡ answered (program nothingRead 0 (statements source))
+        unfolding onOutcome
+        is-refused m j s = let t = says (rw s at one) in whole (goes-on t)
+
+        pub is-given : r ≡ Given → told (SheetIs (p .names) (p .instructions) (p .fields)) ks′ vs′ ≡ answered (program nothingRead 0 (statements source))
+        unfolding onOutcome
+        is-given s =
+            let t = says (rw s at one) in
+            held-told (t .kept) ∙ whole (goes-on (t .same))
+
+        pub is-further : (m : Progress) → r ≡ Further m → at < after → after ≤ length source → Going source after (k + 1) m ns′ ls′ ks′ vs′
+        unfolding onOutcome
+        is-further m s forward inside =
+            let t = says (rw s at one) in
+            record {
+              so-far = t .program;
+              holds = t .kept;
+              same = ap (λ j. program (t .program) j (statementsFrom Plain [] (drop after source))) (add-one k) ∙ sym (goes-on (t .same)) ∙ g .same;
+              inside = inside;
+              fewer = let f = g .fewer in omega (arith, f, forward);
+            }
+
+-- ---- where the next statement lies
+
+pub moved-to : {at size : ℕ} (n : Next) (after : ℕ) → Moved at size n → n .reading ≡ Statement after → Within at size after (n .statement .length)
+moved-to n after h e = rw e at h
+
+-- fewer statements than bytes
+pub few-statements : {source ns ls ks vs : List ℕ} {at k : ℕ} {p : Progress} → Going source at k p ns ls ks vs → length source ≤ 16384 → k + 1 < 65536
+few-statements g h = let a = g .fewer in let b = g .inside in omega (arith, a, b, h)
+
+-- ---- before any statement
+
+module _ (source : List ℕ) where
+  pub too-long : 16384 < length source → refusedAt 1 0 ≡ answered (answer source)
+  unfolding pick
+  too-long h = rw (lt-ltb 16384 (length source) h) refl
+
+  module _ (short : length source ≤ 16384) {r : Found} (e : foundAt r ≡ notAllowed 0 source) where
+    pub not-a-byte : (i : ℕ) → r ≡ At i → refusedAt 2 i ≡ answered (answer source)
+    unfolding pick
+    not-a-byte i z =
+        let t : offset i ≡ notAllowed 0 source = rw z at e in
+        rw (le-ltb 16384 (length source) short) (ap (λ n. answered (onAllowed n source)) t)
+
+    pub all-bytes : r ≡ Missing → answered (program nothingRead 0 (statements source)) ≡ answered (answer source)
+    unfolding pick
+    all-bytes z =
+        let t : allAllowed ≡ notAllowed 0 source = rw z at e in
+        rw (le-ltb 16384 (length source) short) (ap (λ n. answered (onAllowed n source)) t)
+
+abbrev isAll : NotAllowed → ℕ
+isAll (offset i) = 0
+isAll allAllowed = 1
+
+abbrev offsetOr : ℕ → NotAllowed → ℕ
+offsetOr d (offset i) = i
+offsetOr d allAllowed = d
+
+-- the offset of a byte lies in the source
+offset-inside : (bs : List ℕ) (j i : ℕ) → offset i ≡ notAllowed j bs → i < j + length bs
+unfolding notAllowed pick
+offset-inside [] j i e = let z : _≡_ {A = ℕ} 0 1 = ap isAll e in absurd (omega arith)
+offset-inside (b ∷ bs) j i e =
+    by-test
+    (isAllowed b)
+    (λ t. let h = offset-inside bs (suc j) i (rw t at e) in omega (arith, h))
+    (λ t. let z : i ≡ j = ap (offsetOr i) (rw t at e) in omega (arith, z))
+
+pub small-offset : (source : List ℕ) {r : Found} (i : ℕ) → foundAt r ≡ notAllowed 0 source → r ≡ At i → length source ≤ 16384 → i < 4294967296
+small-offset source i e z h =
+    let t : offset i ≡ notAllowed 0 source = rw z at e in
+    let g = offset-inside source 0 i t in
+    omega (arith, g, h)

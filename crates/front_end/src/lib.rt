@@ -1,0 +1,88 @@
+// From source bytes to a sheet, or to the number and place of a refusal, document 01 ("What the box replies").
+mod statement;
+
+use crate::statement::Step;
+use crate::statement::nothing_read;
+use crate::statement::statement;
+use cells::Found;
+use cells::Reading;
+use cells::next_statement;
+use cells::not_allowed;
+use sheet::MOST_FIELDS;
+ghost use mathlib.Core.Path.{_≡_};
+ghost use Prim.Native.Nat.{_≤_};
+ghost use lib.ListN.{length};
+ghost use Rattle.sheet.specs.Memory.{mostFields};
+ghost use Rattle.source.specs.Cells.{statements};
+ghost use Rattle.source.specs.Program.{nothingRead};
+ghost use Rattle.source.specs.Source.{program, answer};
+ghost use Rattle.front_end.specs.Answers.{told, answered};
+ghost use Rattle.front_end.specs.Internal.{Rooms};
+
+// A sheet: V, the number of its instructions, and how many fields the arrays hold from their front on; or document 01's
+// number and place of the refusal. The arrays then hold anything.
+pub enum Answer {
+    Sheet(u32, u32, u32),
+    Refused(u32, u32),
+}
+
+// The statements of a source, one after the other.
+fn read_statements(
+    source: &[u8],
+    names: &mut [u8],
+    labels: &mut [u32],
+    kinds: &mut [u8],
+    values: &mut [u32],
+) -> Answer
+    requires { ⌜ Rooms (now source) (now names) (now labels) (now kinds) (now values) ⌝ }
+    ensures { λ r. ⌜ told r (now (kinds .exit)) (now (values .exit)) ≡ answered (program nothingRead 0 (statements (now (source .entry)))) ⌝ }
+{
+    let mut at = 0;
+    let mut k: u32 = 0;
+    let mut p = nothing_read();
+    while at <= source.len() {
+        let next = next_statement(source, at);
+        let reading = next.reading;
+        match reading {
+            Reading::Ended => return Answer::Refused(10, k),
+            Reading::Cut(n) => return Answer::Refused(n, k + 1),
+            Reading::Statement(q) => {
+                k += 1;
+                match statement(next.statement, p, k, names, labels, kinds, values) {
+                    Step::Further(n) => {
+                        p = n;
+                        at = q;
+                    }
+                    Step::Refused(n, place) => return Answer::Refused(n, place),
+                    Step::Given => {
+                        return Answer::Sheet(p.names as u32, p.instructions, p.fields as u32);
+                    }
+                }
+            }
+        }
+    }
+    Answer::Refused(10, k)
+}
+
+// The sheet of a source, or the first refusal: "1 comes first, then 2. Then statements in order". The two arrays have
+// MOST_FIELDS places each.
+pub fn read(source: &[u8], kinds: &mut [u8], values: &mut [u32]) -> Answer
+    ensures { λ r. ⌜ (length (now (kinds .entry)) ≡ mostFields → length (now (values .entry)) ≡ mostFields
+        → told r (now (kinds .exit)) (now (values .exit)) ≡ answered (answer (now (source .entry)))) ⌝ }
+{
+    if kinds.len() != MOST_FIELDS {
+        return Answer::Refused(0, 0);
+    }
+    if values.len() != MOST_FIELDS {
+        return Answer::Refused(0, 0);
+    }
+    if 16384 < source.len() {
+        return Answer::Refused(1, 0);
+    }
+    if let Found::At(i) = not_allowed(source) {
+        return Answer::Refused(2, i as u32);
+    }
+    let mut names = [0u8; 49152];
+    let mut labels = [0u32; 192];
+    read_statements(source, &mut names, &mut labels, kinds, values)
+}

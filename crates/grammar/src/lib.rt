@@ -1,0 +1,127 @@
+// The form of a statement, document 01 ("Statements"): from its tokens to its labels and the fields of its instruction.
+mod expression;
+mod instruction;
+mod look;
+mod output;
+
+use crate::instruction::instruction;
+use crate::look::label_at;
+use crate::look::mark_at;
+use crate::look::name_at;
+use crate::output::Step;
+ghost use mathlib.Core.Path.{_≡_};
+ghost use Prim.Native.Nat.{_≤_, _*_};
+ghost use lib.ListN.{length};
+ghost use Rattle.source.specs.Grammar.{form, isNameList, labelledForm, labelsAt};
+ghost use Rattle.source.specs.Memory.{tokensFrom};
+ghost use Rattle.grammar.specs.Answers.{fieldsOf, told, Few};
+ghost use Rattle.grammar.specs.Internal.{left, LabelsOf};
+
+// The form of a statement. `Labels(c)`: c labels alone; they are the numbers that the tokens 0, 2 .. carry. `Instruction(c, m)`:
+// c labels and an instruction, whose m fields fill the front of the two arrays.
+pub enum Form {
+    Begin,
+    Declaration,
+    End,
+    Labels(usize),
+    Instruction(usize, usize),
+    Nothing,
+}
+
+// Whether the tokens from place `at` on are a list of names parted by commas.
+fn is_name_list(kinds: &[u8], values: &[u32], n: usize, at: usize) -> bool
+    requires { ⌜ n ≤ 256 ⌝ }
+    ensures { λ r. ⌜ r ≡ isNameList (left n at (now (kinds .entry)) (now (values .entry))) ⌝ }
+{
+    let mut i = at;
+    while name_at(kinds, values, n, i) {
+        if n - i == 1 {
+            return true;
+        }
+        if mark_at(kinds, values, n, i + 1, 44) {
+            i += 2;
+        } else {
+            return false;
+        }
+    }
+    false
+}
+
+// The number of labels that stand before anything else.
+fn labels(kinds: &[u8], values: &[u32], n: usize) -> usize
+    requires { ⌜ n ≤ 256 ⌝ }
+    ensures { λ r. ⌜ LabelsOf n r (now (kinds .entry)) (now (values .entry)) ⌝ }
+{
+    let mut c = 0;
+    while label_at(kinds, values, n, 2 * c) {
+        c += 1;
+    }
+    c
+}
+
+// A statement of labels, an instruction, or both.
+fn labelled(kinds: &[u8], values: &[u32], n: usize, fields: &mut [u8], carried: &mut [u32]) -> Form
+    requires { ⌜ (n ≤ 256) × (n ≤ length (now fields)) × (n ≤ length (now carried)) ⌝ }
+    ensures read { λ r. ⌜ told (tokensFrom 0 n (now (kinds .entry)) (now (values .entry))) r (now (fields .exit))
+        (now (carried .exit)) ≡ fieldsOf (labelledForm (labelsAt (tokensFrom 0 n (now (kinds .entry)) (now (values .entry))))) ⌝ }
+    ensures few { λ r. ⌜ Few n r ⌝ }
+{
+    let c = labels(kinds, values, n);
+    if 2 * c == n {
+        return Form::Labels(c);
+    }
+    let Step::At(a, m) = instruction(kinds, values, n, 2 * c, fields, carried, 0) else {
+        return Form::Nothing;
+    };
+    if a == n {
+        return Form::Instruction(c, m);
+    }
+    Form::Nothing
+}
+
+// The form of the statement whose tokens are the first n of two arrays. A statement has no more tokens than the 256 cells that
+// it can hold, and no more fields than tokens.
+pub fn form_of(
+    kinds: &[u8],
+    values: &[u32],
+    n: usize,
+    fields: &mut [u8],
+    carried: &mut [u32],
+) -> Form
+    ensures read { λ r.
+        ⌜ (n ≤ 256 → n ≤ length (now (fields .entry)) → n ≤ length (now (carried .entry))
+        → told (tokensFrom 0 n (now (kinds .entry)) (now (values .entry))) r (now (fields .exit)) (now (carried .exit))
+        ≡ fieldsOf (form (tokensFrom 0 n (now (kinds .entry)) (now (values .entry))))) ⌝ }
+    ensures few { λ r. ⌜ Few n r ⌝ }
+    ensures kept { λ _. ⌜ (length (now (fields .exit)) ≡ length (now (fields .entry)))
+        × (length (now (carried .exit)) ≡ length (now (carried .entry))) ⌝ }
+{
+    if 256 < n {
+        return Form::Nothing;
+    }
+    if fields.len() < n {
+        return Form::Nothing;
+    }
+    if carried.len() < n {
+        return Form::Nothing;
+    }
+    if mark_at(kinds, values, n, 0, 128) {
+        if n == 1 {
+            return Form::Begin;
+        }
+        return Form::Nothing;
+    }
+    if mark_at(kinds, values, n, 0, 129) {
+        if n == 1 {
+            return Form::End;
+        }
+        return Form::Nothing;
+    }
+    if mark_at(kinds, values, n, 0, 130) {
+        if is_name_list(kinds, values, n, 1) {
+            return Form::Declaration;
+        }
+        return Form::Nothing;
+    }
+    labelled(kinds, values, n, fields, carried)
+}

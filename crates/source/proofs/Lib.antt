@@ -1,0 +1,16 @@
+pub mod BoundedForms
+pub mod Bracketed
+pub mod Chains
+pub mod Examples
+pub mod FineTokens
+pub mod Fuel
+pub mod GoodProgram
+pub mod Joining
+pub mod KnownWords
+pub mod Numbering
+pub mod Printed
+pub mod Readings
+pub mod SmallCells
+pub mod Spelling
+pub mod Turns
+pub mod WithinLimits

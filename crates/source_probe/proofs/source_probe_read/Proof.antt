@@ -1,0 +1,36 @@
+use mathlib.Core.Path.{refl}
+use Rattle.source.specs.Source.{answer}
+use Rattle.source_probe.proofs.Answered.{replied-refusal, replied-sheet, refusal-told, sheet-told}
+use borrow.Author.Needs.{needs}
+use Rattle.source_probe.proofs.source_probe_read.Statement.{statement}
+use Rattle.source_probe.proofs.source_probe_read.Tie as tie
+
+returns : tie.Need-returns
+returns c =
+    let a = c .before .before .before .before .before .before .before .before .before .before .args in
+    replied-refusal (answer (a .source .now)) _ _ (a .sheet .now) (refusal-told (answer (a .source .now)) (c .before .before .before .before .before .read .result) _ _ (c .before .before .before .before .before .read .ensures refl refl) _ _ (c .before .n .given .1))
+
+returns-2 : tie.Need-returns-2
+returns-2 c =
+    let a = c .before .before .before .before .before .before .before .before .before .before .before .before .before .before .before .before .args in
+    replied-sheet _ (a .sheet .now) _ (sheet-told (answer (a .source .now)) (c .before .before .before .before .before .before .before .before .before .before .before .read .result) _ _ (c .before .before .before .before .before .before .before .before .before .before .before .read .ensures refl refl) _ _ _ (c .before .before .before .before .before .before .before .v .given .1)) (c .before .before .write-sheet .ensures .0) (c .before .before .write-sheet .ensures .1)
+
+pub source-probe-read-spec : {M : Type 1} → statement M
+source-probe-read-spec =
+    tie.close
+    (tie.spec
+    (λ c. search needs)
+    (λ c. search needs)
+    (λ c κs. search needs)
+    (λ c. search needs)
+    (λ c. search needs)
+    (λ c. search needs)
+    (λ c. search needs)
+    (λ c. search needs)
+    (λ c. search needs)
+    (λ c. search needs)
+    (λ c. search needs)
+    (λ c κs. search needs)
+    returns
+    (λ c. search needs)
+    returns-2)

@@ -1,0 +1,61 @@
+use Rattle.base.proofs.Cases.{cases}
+use Rattle.tokens.specs.Internal.{pairOf}
+use Rattle.tokens.proofs.signs.pair_of.Statement.{statement}
+use Rattle.tokens.proofs.signs.pair_of.Tie as tie
+
+returns : tie.Need-returns
+returns c = unfold pairOf in search cases depth 16
+
+returns-2 : tie.Need-returns-2
+returns-2 c = unfold pairOf in search cases depth 16
+
+returns-3 : tie.Need-returns-3
+returns-3 c = unfold pairOf in search cases depth 16
+
+returns-4 : tie.Need-returns-4
+returns-4 c = unfold pairOf in search cases depth 16
+
+returns-5 : tie.Need-returns-5
+returns-5 c = unfold pairOf in search cases depth 16
+
+returns-6 : tie.Need-returns-6
+returns-6 c = unfold pairOf in search cases depth 16
+
+returns-7 : tie.Need-returns-7
+returns-7 c = unfold pairOf in search cases depth 16
+
+returns-8 : tie.Need-returns-8
+returns-8 c = unfold pairOf in search cases depth 16
+
+returns-9 : tie.Need-returns-9
+returns-9 c = unfold pairOf in search cases depth 16
+
+returns-10 : tie.Need-returns-10
+returns-10 c = unfold pairOf in search cases depth 16
+
+returns-11 : tie.Need-returns-11
+returns-11 c = unfold pairOf in search cases depth 16
+
+returns-12 : tie.Need-returns-12
+returns-12 c = unfold pairOf in search cases depth 16
+
+returns-13 : tie.Need-returns-13
+returns-13 c = unfold pairOf in search cases depth 16
+
+pub pair-of-spec : {M : Type 1} → statement M
+pair-of-spec =
+    tie.close
+    (tie.spec
+    returns
+    returns-2
+    returns-3
+    returns-4
+    returns-5
+    returns-6
+    returns-7
+    returns-8
+    returns-9
+    returns-10
+    returns-11
+    returns-12
+    returns-13)

@@ -1,0 +1,84 @@
+// From the cells of a statement to its tokens, document 01. Comments in quotes are document 01's words.
+mod constant;
+mod lexeme;
+mod signs;
+
+use lexeme::One;
+use source::Statement;
+ghost use mathlib.Core.Path.{_≡_};
+ghost use Prim.Native.Nat.{_<_};
+ghost use lib.ListN.{length, take};
+ghost use Rattle.source.specs.Memory.{held};
+ghost use Rattle.source.specs.Tokens.{lexemes};
+ghost use Rattle.tokens.specs.Answers.{lexedIn, Room, Few};
+ghost use Rattle.tokens.specs.Internal.{Sound, storedOf, Scanned};
+
+// The number of tokens, or the number of the refusal: 5 or 6.
+pub enum Lexed {
+    Tokens(usize),
+    Refused(u32),
+}
+
+// What an array holds of a token: its kind, what it carries, and the place of the cell behind it; or a refusal.
+enum Stored {
+    At(u8, u32, usize),
+    Wrong(u32),
+}
+
+// A name carries the place of its first cell, times 256, and its length.
+fn stored_of(one: One, at: usize) -> Stored
+    requires { ⌜ Sound at 255 one ⌝ }
+    ensures { λ r. ⌜ r ≡ storedOf at one ⌝ }
+{
+    match one {
+        One::Token(t, q) => Stored::At(source::number::kind_of(t), source::number::value_of(t), q),
+        One::Name(q) => Stored::At(0, (at * 256 + (q - at)) as u32, q),
+        One::Wrong(k) => Stored::Wrong(k),
+    }
+}
+
+// All tokens of cells, put into two arrays.
+fn scan(cells: &[u8], kinds: &mut [u8], values: &mut [u32]) -> Lexed
+    requires { ⌜ length (now cells) < 256 ⌝ }
+    ensures { λ r. ⌜ Scanned (now (cells .entry)) (now (kinds .exit)) (now (values .exit)) r ⌝ }
+{
+    let mut at = 0;
+    let mut n = 0;
+    while at < cells.len() {
+        let one = lexeme::one_at(cells, at);
+        match stored_of(one, at) {
+            Stored::At(k, v, q) => {
+                base::put_byte(kinds, n, k);
+                base::put_word(values, n, v);
+                at = q;
+                n += 1;
+            },
+            Stored::Wrong(k) => return Lexed::Refused(k),
+        }
+    }
+    Lexed::Tokens(n)
+}
+
+// The tokens of the first cells of an array.
+fn scan_front(cells: &[u8], n: usize, kinds: &mut [u8], values: &mut [u32]) -> Lexed
+    requires { ⌜ n < 256 ⌝ }
+    ensures { λ r. ⌜ Scanned (take n (now (cells .entry))) (now (kinds .exit)) (now (values .exit)) r ⌝ }
+{
+    if cells.len() <= n {
+        return scan(cells, kinds, values);
+    }
+    scan(&cells[..n], kinds, values)
+}
+
+// The tokens of a statement. One that no end mark fits behind has more than 256 cells.
+pub fn tokens(s: Statement, kinds: &mut [u8], values: &mut [u32]) -> Lexed
+    ensures read { λ r. ⌜ (Room s (now (kinds .entry)) (now (values .entry))
+        → lexedIn (held s) r (now (kinds .exit)) (now (values .exit)) ≡ lexemes (held s)) ⌝ }
+    ensures few { λ r. ⌜ Few s r ⌝ }
+{
+    let n = s.length;
+    if 255 < n {
+        return Lexed::Refused(4);
+    }
+    scan_front(&s.cells, n, kinds, values)
+}

@@ -1,0 +1,78 @@
+//! From SKIMP source to its sheet, or to the one refusal and place that document 01 settles.
+//!
+//! Each part of the reading is a module: `cells` parts bytes into statements of cells, `tokens`
+//! cuts cells into tokens, `grammar` finds the form of a statement, and `program` holds its names,
+//! labels and limits.
+
+pub mod cells;
+mod grammar;
+mod program;
+pub mod tokens;
+
+use crate::sheet::Sheet;
+use cells::Statements;
+use program::Program;
+
+/// "Source is 0 to 16,384 bytes."
+pub const MOST_SOURCE: usize = 16_384;
+
+pub const SOURCE_TOO_LONG: u32 = 1;
+pub const BYTE_NOT_ALLOWED: u32 = 2;
+pub const SOURCE_ENDS_EARLY: u32 = 3;
+pub const TOO_MANY_CELLS: u32 = 4;
+pub const UNKNOWN_KEYWORD: u32 = 5;
+pub const CONSTANT_INVALID: u32 = 6;
+pub const NO_SUCH_FORM: u32 = 7;
+pub const NAME_MISUSED: u32 = 8;
+pub const LABEL_MISUSED: u32 = 9;
+pub const NO_END: u32 = 10;
+pub const OVER_LIMIT: u32 = 11;
+
+/// Document 01's number of a refusal, 1 to 11, and its place.
+#[derive(Clone, Copy, Debug, PartialEq, Eq, PartialOrd, Ord)]
+pub struct Refusal {
+    pub number: u32,
+    pub place: u32,
+}
+
+fn refuse<T>(number: u32, place: u32) -> Result<T, Refusal> {
+    Err(Refusal { number, place })
+}
+
+/// "Allowed bytes are 10 and 32 to 126."
+fn is_allowed(byte: u8) -> bool {
+    byte == b'\n' || (32..=126).contains(&byte)
+}
+
+/// The sheet of a source. "1 comes first, then 2. Then statements in order, skipped ones not
+/// counted, from 1."
+pub fn read(source: &[u8]) -> Result<Sheet, Refusal> {
+    if source.len() > MOST_SOURCE {
+        return refuse(SOURCE_TOO_LONG, 0);
+    }
+    if let Some(offset) = source.iter().position(|&byte| !is_allowed(byte)) {
+        return refuse(BYTE_NOT_ALLOWED, offset as u32);
+    }
+    let mut program = Program::new();
+    let mut number = 0;
+    for statement in Statements::new(source) {
+        number += 1;
+        let at_end = statement
+            .and_then(|cells| take(&mut program, &cells, number))
+            .or_else(|refusal| refuse(refusal, number))?;
+        // "`%ENDOFPROGRAM` ..., after which no more statements are read"
+        if at_end {
+            return program.sheet();
+        }
+    }
+    // "no `%ENDOFPROGRAM`: statements read"
+    refuse(NO_END, number)
+}
+
+/// Takes a statement into the program. Gives whether it is `%ENDOFPROGRAM`, or the number of its
+/// refusal: "the first of 5 and 6 from the left; then 7, 8, 9, 11".
+fn take(program: &mut Program, cells: &[cells::Cell], number: u32) -> Result<bool, u32> {
+    let tokens = tokens::cut(cells)?;
+    let statement = grammar::parse(&tokens).ok_or(NO_SUCH_FORM)?;
+    program.take(&statement, number)
+}

@@ -1,0 +1,301 @@
+//! A sheet as the tokens of a program, its names, labels and brackets chosen at random.
+
+use super::spelling::length;
+use crate::object::{LINK_WORDS, MOST_VARIABLES};
+use crate::random::Random;
+use crate::sheet::{Expression, Instruction, Operator, Sheet, Sign, Simple};
+use crate::sheet::{OPERATORS, RELATIONS};
+use crate::source::tokens::Token;
+use std::collections::BTreeSet;
+
+/// The tokens of each statement.
+pub type Statements = Vec<Vec<Token>>;
+
+/// The cells of a statement without its end mark.
+const MOST_CELLS: usize = 255;
+const MOST_LABELS: usize = 64;
+
+/// The tokens of a program whose sheet this is. There is none where it needs too many labels or a
+/// statement is too long.
+pub fn write(random: &mut Random, sheet: &Sheet) -> Option<Statements> {
+    let labels = labels(random, sheet)?;
+    let names = names(random, sheet.variables as usize);
+    let brackets = random.pick(&[1000, 1000, 8, 3]);
+    let mut writer = Writer {
+        random,
+        names,
+        labels,
+        brackets,
+        tokens: Vec::new(),
+    };
+    let mut statements = vec![vec![Token::Keyword("BEGIN")]];
+    statements.extend(writer.declarations());
+    for (place, instruction) in sheet.instructions.iter().enumerate() {
+        writer.instruction(instruction);
+        let instruction = std::mem::take(&mut writer.tokens);
+        writer.put_labelled(&mut statements, place, instruction);
+    }
+    writer.put_labelled(&mut statements, sheet.instructions.len(), Vec::new());
+    statements.push(vec![Token::Keyword("ENDOFPROGRAM")]);
+    let fits = |statement: &Vec<Token>| length(statement) <= MOST_CELLS;
+    statements.iter().all(fits).then_some(statements)
+}
+
+/// The instructions' numbers that the GOTOs of a sheet lead to.
+fn targets(sheet: &Sheet) -> BTreeSet<u32> {
+    let mut targets = BTreeSet::new();
+    let mut note = |simple: &Simple| {
+        if let Simple::Goto(target) = simple {
+            targets.insert(*target);
+        }
+    };
+    for instruction in &sheet.instructions {
+        match instruction {
+            Instruction::Simple(simple) => note(simple),
+            Instruction::If {
+                then, otherwise, ..
+            } => {
+                note(then);
+                otherwise.iter().for_each(&mut note);
+            }
+        }
+    }
+    targets
+}
+
+/// Labels before each instruction and at the end, at least one where a GOTO leads.
+fn labels(random: &mut Random, sheet: &Sheet) -> Option<Vec<Vec<u32>>> {
+    let targets = targets(sheet);
+    let mut spare = MOST_LABELS.checked_sub(targets.len())?;
+    spare = match random.below(16) {
+        0 => spare,
+        1..=3 => random.below(spare.min(8) + 1),
+        _ => 0,
+    };
+    let mut taken = BTreeSet::new();
+    let mut fresh = |random: &mut Random| loop {
+        let label = match random.below(4) {
+            0 => random.between(1, 9999),
+            1 => random.pick(&[1, 9, 10, 99, 100, 999, 1000, 9999]),
+            _ => random.between(1, 99),
+        };
+        if taken.insert(label) {
+            return label as u32;
+        }
+    };
+    let mut labels = vec![Vec::new(); sheet.instructions.len() + 1];
+    for target in targets {
+        labels[target as usize - 1].push(fresh(random));
+    }
+    for _ in 0..spare {
+        let place = random.below(labels.len());
+        labels[place].push(fresh(random));
+    }
+    Some(labels)
+}
+
+/// So many different names, none of them SEND.
+pub fn names(random: &mut Random, count: usize) -> Vec<String> {
+    let longest = match count > MOST_VARIABLES as usize / 2 {
+        true => 3,
+        false => random.pick(&[2, 3, 8, 30, 80]),
+    };
+    let mut names = Vec::new();
+    while names.len() < count {
+        let name = match random.below(12) {
+            0 => random.pick(&ODD_NAMES).to_string(),
+            1 | 2 if !names.is_empty() => similar(random, &names),
+            _ => name(random, longest),
+        };
+        if name != "SEND" && !names.contains(&name) {
+            names.push(name);
+        }
+    }
+    names
+}
+
+/// Names with something of a keyword or of SEND.
+const ODD_NAMES: [&str; 12] = [
+    "IF", "C", "THEN", "BEGIN", "INTEGER", "ELSE", "SENDS", "SEN", "END", "W2", "K1", "NOT",
+];
+
+/// A name that differs from another in its last character only.
+fn similar(random: &mut Random, names: &[String]) -> String {
+    let mut name = names[random.below(names.len())].clone();
+    if name.len() > 1 && random.once_in(2) {
+        name.pop();
+    }
+    name.push(random.pick(&['A', 'Z', '0', '9']));
+    name
+}
+
+fn name(random: &mut Random, longest: usize) -> String {
+    let letters = b"ABCDEFGHIJKLMNOPQRSTUVWXYZ0123456789";
+    let first = letters[random.below(26)];
+    let mut name = String::from(char::from(first));
+    for _ in 1..random.between(1, longest) {
+        name.push(char::from(random.pick(letters)));
+    }
+    name
+}
+
+struct Writer<'r> {
+    random: &'r mut Random,
+    names: Vec<String>,
+    labels: Vec<Vec<u32>>,
+    /// Once in so many times an operand gets brackets that it does not need.
+    brackets: usize,
+    /// Those of the statement being written.
+    tokens: Vec<Token>,
+}
+
+impl Writer<'_> {
+    fn put(&mut self, symbol: &'static str) {
+        self.tokens.push(Token::Symbol(symbol));
+    }
+
+    /// The names in one list or several.
+    fn declarations(&mut self) -> Statements {
+        let mut lists = Statements::new();
+        let longest = self.random.pick(&[1, 5, 60, 60]);
+        for name in &self.names {
+            let name = Token::Name(name.clone());
+            match lists.last_mut() {
+                Some(list) if list.len() < 2 * longest && length(list) < 220 => {
+                    list.extend([Token::Symbol(","), name]);
+                }
+                _ => lists.push(vec![Token::Keyword("INTEGER"), name]),
+            }
+        }
+        lists
+    }
+
+    /// Puts the labels of a place, some of them alone, and the instruction behind them. At the end of
+    /// the program it has no tokens.
+    fn put_labelled(&mut self, statements: &mut Statements, place: usize, instruction: Vec<Token>) {
+        let mut statement = Vec::new();
+        for label in self.labels[place].clone() {
+            statement.extend([Token::Decimal(label), Token::Symbol(":")]);
+            if self.random.once_in(4) || length(&statement) + length(&instruction) > 240 {
+                statements.push(std::mem::take(&mut statement));
+            }
+        }
+        statement.extend(instruction);
+        if !statement.is_empty() {
+            statements.push(statement);
+        }
+    }
+
+    fn instruction(&mut self, instruction: &Instruction) {
+        match instruction {
+            Instruction::Simple(simple) => self.simple(simple),
+            Instruction::If {
+                relation,
+                left,
+                right,
+                then,
+                otherwise,
+            } => {
+                self.tokens.push(Token::Keyword("IF"));
+                self.expression(left);
+                self.put(RELATIONS[*relation as usize].1);
+                self.expression(right);
+                self.tokens.push(Token::Keyword("THEN"));
+                self.simple(then);
+                if let Some(otherwise) = otherwise {
+                    self.tokens.push(Token::Keyword("ELSE"));
+                    self.simple(otherwise);
+                }
+            }
+        }
+    }
+
+    fn simple(&mut self, simple: &Simple) {
+        match simple {
+            Simple::Set(word, value) => {
+                self.name(*word);
+                self.put("=");
+                self.expression(value);
+            }
+            Simple::Send(value) => {
+                self.tokens.push(Token::Name("SEND".to_string()));
+                self.put("(");
+                self.expression(value);
+                self.put(")");
+            }
+            Simple::Goto(target) => {
+                let label = self.random.pick(&self.labels[*target as usize - 1]);
+                self.put("->");
+                self.tokens.push(Token::Decimal(label));
+            }
+        }
+    }
+
+    fn name(&mut self, word: u32) {
+        let name = &self.names[(word - LINK_WORDS) as usize];
+        self.tokens.push(Token::Name(name.clone()));
+    }
+
+    /// A whole expression, sometimes with a plus that it does not need.
+    fn expression(&mut self, expression: &Expression) {
+        let start = self.tokens.len();
+        self.part(expression, 1, true);
+        let signed = matches!(self.tokens[start], Token::Symbol("-" | "\\"));
+        if !signed && self.random.once_in(12) {
+            self.tokens.insert(start, Token::Symbol("+"));
+        }
+    }
+
+    fn bracketed(&mut self, expression: &Expression) {
+        self.put("(");
+        self.expression(expression);
+        self.put(")");
+    }
+
+    /// An expression where only operators of at least some level may stand outside brackets, and
+    /// a sign only if it begins an expression.
+    fn part(&mut self, expression: &Expression, least: u32, begins: bool) {
+        if self.random.once_in(self.brackets) {
+            return self.bracketed(expression);
+        }
+        match expression {
+            Expression::Word(word) => self.name(*word),
+            Expression::Constant(value) => self.constant(*value),
+            Expression::Unary(Sign::Not, operand) if begins => {
+                self.put("\\");
+                self.part(operand, 4, false);
+            }
+            Expression::Unary(Sign::Neg, operand) if begins && least == 1 => {
+                self.put("-");
+                self.part(operand, 2, false);
+            }
+            Expression::Binary(operator, left, right) if level(*operator) >= least => {
+                self.part(left, level(*operator), begins);
+                self.put(OPERATORS[*operator as usize].1);
+                self.part(right, level(*operator) + 1, false);
+            }
+            _ => self.bracketed(expression),
+        }
+    }
+
+    fn constant(&mut self, value: u32) {
+        let bytes = value.to_be_bytes();
+        let mut bytes = bytes.iter().skip_while(|byte| **byte == 0);
+        let may_be_quoted = value > 0 && bytes.all(|byte| matches!(byte, 10 | 32..=126));
+        let token = match may_be_quoted && self.random.once_in(2) {
+            true => Token::Quoted(value),
+            false => Token::Decimal(value),
+        };
+        self.tokens.push(token);
+    }
+}
+
+/// The level of an operator, the lowest 1. It is not the grammar's function, so that reading back
+/// what was written here checks that one.
+fn level(operator: Operator) -> u32 {
+    match OPERATORS[operator as usize].1 {
+        "**" | "<<" | ">>" => 3,
+        "*" | "/" | "&" => 2,
+        _ => 1,
+    }
+}

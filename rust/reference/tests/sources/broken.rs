@@ -1,0 +1,239 @@
+//! Readers with a mistake each, which the comparison must find.
+
+use skimp_reference::agree::{Compared, Read};
+use skimp_reference::random::Random;
+use skimp_reference::sheet::Sheet;
+use skimp_reference::source::{read, Refusal};
+use skimp_reference::translate::translate;
+use skimp_reference::writing::source;
+use skimp_reference::Reply;
+
+use crate::compare::{answer, reference};
+
+/// Among how many random sources the mistake must be found.
+const SOURCES: usize = 100_000;
+
+/// Holds the comparison to finding a reader's mistake, and to making the source shorter that shows
+/// it.
+fn found(name: &str, reader: Read) {
+    let mut random = Random(42);
+    let mut compared = Compared::new(reader);
+    let mut sources = (0..SOURCES).map(|_| source(&mut random).1);
+    let source = sources.find(|source| compared.read(source).is_err());
+    let source = source.unwrap_or_else(|| panic!("{name}: not found"));
+    // one of thousands of bytes takes long
+    if source.len() < 1000 {
+        let short = compared.shorten(&source);
+        assert!(compared.read(&short).is_err(), "{name}: shortened");
+        assert!(short.len() <= source.len(), "{name}: shortened");
+    }
+}
+
+/// The place of one refusal is one too high.
+fn wrong_place<const NUMBER: u32>(source: &[u8], buffer: &mut [u8]) -> Reply {
+    let reply = reference(source, buffer);
+    Reply {
+        value: reply.value + u32::from(reply.number == NUMBER),
+        ..reply
+    }
+}
+
+#[test]
+fn wrong_places() {
+    let readers: [Read; 12] = [
+        wrong_place::<0>,
+        wrong_place::<1>,
+        wrong_place::<2>,
+        wrong_place::<3>,
+        wrong_place::<4>,
+        wrong_place::<5>,
+        wrong_place::<6>,
+        wrong_place::<7>,
+        wrong_place::<8>,
+        wrong_place::<9>,
+        wrong_place::<10>,
+        wrong_place::<11>,
+    ];
+    for (number, reader) in readers.into_iter().enumerate() {
+        found(&format!("the place of {number}"), reader);
+    }
+}
+
+/// One refusal is taken for another.
+fn wrong_number<const NUMBER: u32, const OTHER: u32>(source: &[u8], buffer: &mut [u8]) -> Reply {
+    let reply = reference(source, buffer);
+    match reply.number {
+        number if number == NUMBER => Reply {
+            number: OTHER,
+            ..reply
+        },
+        _ => reply,
+    }
+}
+
+#[test]
+fn wrong_numbers() {
+    let readers: [Read; 11] = [
+        wrong_number::<1, 2>,
+        wrong_number::<2, 1>,
+        wrong_number::<3, 4>,
+        wrong_number::<4, 3>,
+        wrong_number::<5, 6>,
+        wrong_number::<6, 5>,
+        wrong_number::<7, 8>,
+        wrong_number::<8, 7>,
+        wrong_number::<9, 11>,
+        wrong_number::<10, 7>,
+        wrong_number::<11, 9>,
+    ];
+    for (place, reader) in readers.into_iter().enumerate() {
+        found(&format!("number {}", place + 1), reader);
+    }
+}
+
+/// "Refused calls write nothing."
+fn writes_when_refused(source: &[u8], buffer: &mut [u8]) -> Reply {
+    let reply = reference(source, buffer);
+    if reply.number == 11 {
+        buffer[0] = b'S';
+    }
+    reply
+}
+
+/// "the bytes behind stay"
+fn writes_behind(source: &[u8], buffer: &mut [u8]) -> Reply {
+    let reply = reference(source, buffer);
+    if reply.number == 0 {
+        buffer[reply.value as usize] = 0;
+    }
+    reply
+}
+
+fn writes_at_the_end(source: &[u8], buffer: &mut [u8]) -> Reply {
+    let last = buffer.len() - 1;
+    buffer[last] = 0;
+    reference(source, buffer)
+}
+
+fn leaves_the_last_newline(source: &[u8], buffer: &mut [u8]) -> Reply {
+    let kept = buffer[0];
+    let reply = reference(source, buffer);
+    if reply.number == 0 {
+        buffer[reply.value as usize - 1] = kept;
+    }
+    reply
+}
+
+#[test]
+fn wrong_writing() {
+    found("writes when it refuses", writes_when_refused);
+    found("writes behind the text", writes_behind);
+    found("writes at the buffer's end", writes_at_the_end);
+    found("leaves the last newline", leaves_the_last_newline);
+}
+
+/// The source with its bytes outside quotes, or those inside, changed one by one.
+fn changed(source: &[u8], inside: bool, change: fn(u8) -> Option<u8>) -> Vec<u8> {
+    let mut quoted = false;
+    let mut bytes = Vec::new();
+    for &byte in source {
+        quoted ^= byte == b'\'';
+        match quoted == inside {
+            true => bytes.extend(change(byte)),
+            false => bytes.push(byte),
+        }
+    }
+    bytes
+}
+
+/// "listing line 483 would capitalise it"
+fn capitals_in_quotes(source: &[u8], buffer: &mut [u8]) -> Reply {
+    let capital = |byte: u8| Some(byte.to_ascii_uppercase());
+    reference(&changed(source, true, capital), buffer)
+}
+
+/// Spaces do not end the marking of keyword letters.
+fn spaces_mark_on(source: &[u8], buffer: &mut [u8]) -> Reply {
+    let other = |byte: u8| (byte != b' ').then_some(byte);
+    reference(&changed(source, false, other), buffer)
+}
+
+/// A byte that is not allowed is not found after the end of the program.
+fn stops_at_the_end(source: &[u8], buffer: &mut [u8]) -> Reply {
+    let end = b"%ENDOFPROGRAM\n";
+    let place = source.windows(end.len()).position(|part| part == end);
+    let length = place.map_or(source.len(), |place| place + end.len());
+    reference(&source[..length], buffer)
+}
+
+/// The end of the source counts as no newline.
+fn last_line_lost(source: &[u8], buffer: &mut [u8]) -> Reply {
+    let ends = |byte: &u8| *byte == b'\n' || *byte == b';';
+    let length = source.iter().rposition(ends).map_or(0, |place| place + 1);
+    reference(&source[..length], buffer)
+}
+
+/// `%C` goes on only right before its newline.
+fn spaces_stop_continuation(source: &[u8], buffer: &mut [u8]) -> Reply {
+    let mut source = source.to_vec();
+    for place in 0..source.len().saturating_sub(3) {
+        if source[place..].starts_with(b"%C \n") {
+            source[place + 3] = b';';
+        }
+    }
+    reference(&source, buffer)
+}
+
+#[test]
+fn wrong_bytes() {
+    found("capitals in quotes", capitals_in_quotes);
+    found("spaces mark on", spaces_mark_on);
+    found("stops at the end", stops_at_the_end);
+    found("the last line lost", last_line_lost);
+    found("spaces stop continuation", spaces_stop_continuation);
+}
+
+/// Refuses what the reference accepts, if `test` holds.
+fn refusing(source: &[u8], buffer: &mut [u8], test: fn(&Sheet) -> bool) -> Reply {
+    let refusal = Refusal {
+        number: 11,
+        place: 2,
+    };
+    let result = read(source);
+    let refused = result.as_ref().is_ok_and(test);
+    answer(if refused { Err(refusal) } else { result }, buffer)
+}
+
+fn too_few_variables(source: &[u8], buffer: &mut [u8]) -> Reply {
+    refusing(source, buffer, |sheet| sheet.variables == 64)
+}
+
+fn too_few_temporaries(source: &[u8], buffer: &mut [u8]) -> Reply {
+    refusing(source, buffer, |sheet| {
+        translate(sheet).is_some_and(|translation| translation.temporaries == 32)
+    })
+}
+
+fn too_few_orders(source: &[u8], buffer: &mut [u8]) -> Reply {
+    refusing(source, buffer, |sheet| {
+        translate(sheet).is_some_and(|translation| translation.orders.len() == 1024)
+    })
+}
+
+fn too_short_source(source: &[u8], buffer: &mut [u8]) -> Reply {
+    if source.len() == 16_384 {
+        return Reply {
+            number: 1,
+            value: 0,
+        };
+    }
+    reference(source, buffer)
+}
+
+#[test]
+fn wrong_limits() {
+    found("64 variables", too_few_variables);
+    found("32 temporaries", too_few_temporaries);
+    found("1,024 orders", too_few_orders);
+    found("16,384 bytes", too_short_source);
+}

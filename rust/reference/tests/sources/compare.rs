@@ -1,0 +1,71 @@
+//! The comparison itself: the reference agrees with itself on random sources of every kind.
+
+use skimp_reference::agree::{Compared, Outcomes};
+use skimp_reference::random::Random;
+use skimp_reference::sheet::Sheet;
+use skimp_reference::source::{read, Refusal};
+use skimp_reference::writing::exhaustive::kinds;
+use skimp_reference::writing::{source, MAKINGS};
+use skimp_reference::Reply;
+
+/// The reference as the archive would be called.
+pub fn reference(source: &[u8], buffer: &mut [u8]) -> Reply {
+    answer(read(source), buffer)
+}
+
+/// What the archive would answer for a sheet or a refusal.
+pub fn answer(result: Result<Sheet, Refusal>, buffer: &mut [u8]) -> Reply {
+    match result {
+        Ok(sheet) => {
+            let text = sheet.text();
+            buffer[..text.len()].copy_from_slice(text.as_bytes());
+            Reply {
+                number: 0,
+                value: text.len() as u32,
+            }
+        }
+        Err(refusal) => Reply {
+            number: refusal.number,
+            value: refusal.place,
+        },
+    }
+}
+
+#[test]
+fn every_outcome() {
+    let mut random = Random(41);
+    let mut compared = Compared::new(reference);
+    let mut outcomes = Outcomes::default();
+    let mut by_making = MAKINGS.map(|_| Outcomes::default());
+    let mut bytes = 0;
+    for _ in 0..100_000 {
+        let (making, source) = source(&mut random);
+        bytes += source.len();
+        let outcome = compared.check("every outcome, seed 41", &source);
+        outcomes.add(outcome);
+        by_making[making as usize].add(outcome);
+    }
+    println!("{bytes} bytes; {outcomes}");
+    for ((making, _), outcomes) in MAKINGS.iter().zip(by_making) {
+        println!("{making:?}: {outcomes}");
+    }
+    outcomes.every_one("every outcome, seed 41", 20);
+}
+
+/// What the small sources are read to.
+#[test]
+fn every_small_source() {
+    let mut outcomes = Outcomes::default();
+    for kind in kinds() {
+        let mut of_kind = Outcomes::default();
+        kind.every_source(|source| {
+            let outcome = read(source).map(|_| ());
+            of_kind.add(outcome);
+            outcomes.add(outcome);
+        });
+        println!("{}: {of_kind}", kind.name);
+    }
+    println!("{outcomes}");
+    assert!(outcomes.sources >= 1_000_000, "{outcomes}");
+    assert!(outcomes.accepted >= 50_000, "{outcomes}");
+}

@@ -1,0 +1,58 @@
+//! Random sheets, written as source and read again.
+
+use skimp_reference::census::Census;
+use skimp_reference::generate::Plan;
+use skimp_reference::random::Random;
+use skimp_reference::sheet::Sheet;
+use skimp_reference::source::{read, MOST_SOURCE};
+use skimp_reference::translate::translate;
+use skimp_reference::writing::spelling::Style;
+use skimp_reference::writing::{program, spelled_sheet};
+
+fn check(census: &mut Census, sheet: &Sheet, source: &[u8]) {
+    let got = read(source);
+    assert!(
+        got.as_ref() == Ok(sheet),
+        "{}\nis read to {:?}\nand not to {}",
+        String::from_utf8_lossy(source),
+        got.map(|sheet| sheet.text()),
+        sheet.text()
+    );
+    census.add(sheet, &translate(sheet).expect("within the limits"));
+}
+
+#[test]
+fn spelled_sheets() {
+    let mut random = Random(31);
+    let mut census = Census::default();
+    for _ in 0..100_000 {
+        let (sheet, source) = spelled_sheet(&mut random);
+        check(&mut census, &sheet, &source);
+    }
+    assert_eq!(census.sheets, 100_000);
+    census.every_form("spelled sheets", 500);
+    assert!(census.with_instructions(0) >= 1000);
+    for variables in [0, 1, 63, 64] {
+        assert!(census.with_variables(variables) >= 1000, "V {variables}");
+    }
+}
+
+/// Those whose statements fit, in a source that is not too long.
+#[test]
+fn large_sheets() {
+    let mut random = Random(32);
+    let mut census = Census::default();
+    for _ in 0..5000 {
+        let sheet = Plan::large_sheet(&mut random);
+        let Some(statements) = program::write(&mut random, &sheet) else {
+            continue;
+        };
+        let source = Style::random(&mut random).source(&mut random, &statements);
+        if source.len() <= MOST_SOURCE {
+            check(&mut census, &sheet, &source);
+        }
+    }
+    println!("{} sheets", census.sheets);
+    assert!(census.sheets >= 500, "{} sheets", census.sheets);
+    assert!(census.with_orders(1024) >= 50);
+}
