@@ -1,7 +1,7 @@
--- Sources of document 01, read by the definitions.
-use Prim.Native.Nat.{ℕ}
+-- Sources and what document 01 answers to each, as one table under one statement, read by the definitions.
+use Prim.Native.String.{String}
 use mathlib.Core.Path.{_≡_, refl}
-use mathlib.Core.List.{List, [], _∷_}
+use mathlib.Core.List.{List, [], _∷_, map}
 use Rattle.base.specs.Text.{bytes}
 use Rattle.base.specs.Choice.{pick}
 use Rattle.text.specs.Pieces.{fixed, onFront}
@@ -13,39 +13,65 @@ use Rattle.source.specs.Cells.{outside, turn, sourceEnd, onTurn, stateme
 use Rattle.source.specs.Tokens.{firstOf, run, pastRun, decimalValue, textAt, packed, lexeme, onOne, lexemesIn}
 use Rattle.source.specs.Grammar.{next, opens, behindFirst, joined, startOf, operandBy, linksBy, expressionIn, named, jump, simpleAt, relationAt, labelsAt, labelledForm, isNameList, form}
 use Rattle.source.specs.Program.{sameName, wordFrom, allKnown, namesIn, canDeclare, numberOf, canSet, jumpsIn, all, firstUnset, statement}
-use Rattle.source.specs.Source.{accepted, refusal, answer, onOutcome, program, notAllowed}
+use Rattle.source.specs.Source.{Answer, accepted, refusal, answer, onOutcome, program, notAllowed}
+
+pub record Example : Type 0 where
+  pub source : String
+  pub is : Answer
+
+abbrev pub example : String → Answer → Example
+example s a = record { source = s; is = a }
 
 -- "One program whole"
-abbrev pub workedSource : List ℕ
-workedSource =
-    bytes
+abbrev pub worked : Example
+worked =
+    example
     "%BEGIN\n%INTEGER A, B\nA = 3 ; B = A - (2 - 5) / 2\n%IF B > 4 %THEN SEND(B) %ELSE ->1\n1: SEND(A)\n%ENDOFPROGRAM\n"
-
-worked : answer workedSource ≡ accepted workedSheet
-unfolding bytes pick workedSheet fixed onFront code ordersOfAll temporaries expressionFields outside turn sourceEnd onTurn statementsFrom firstOf run pastRun decimalValue textAt packed lexeme onOne lexemesIn next opens behindFirst joined startOf operandBy linksBy expressionIn named jump simpleAt relationAt labelsAt labelledForm isNameList form sameName wordFrom allKnown namesIn canDeclare numberOf canSet jumpsIn all firstUnset statement onOutcome program notAllowed
-worked = refl
+    (accepted workedSheet)
 
 -- "Empty source: 10, place 0."
-nothing : answer [] ≡ refusal 10 0
-unfolding bytes pick workedSheet fixed onFront code ordersOfAll temporaries expressionFields outside turn sourceEnd onTurn statementsFrom firstOf run pastRun decimalValue textAt packed lexeme onOne lexemesIn next opens behindFirst joined startOf operandBy linksBy expressionIn named jump simpleAt relationAt labelsAt labelledForm isNameList form sameName wordFrom allKnown namesIn canDeclare numberOf canSet jumpsIn all firstUnset statement onOutcome program notAllowed
-nothing = refl
+abbrev pub emptySource : Example
+emptySource = example "" (refusal 10 0)
 
-e1 : answer (bytes "%BEGIN\n%INTEGER A\n A = 2147483648\n%ENDOFPROGRAM") ≡ refusal 6 3
-unfolding bytes pick workedSheet fixed onFront code ordersOfAll temporaries expressionFields outside turn sourceEnd onTurn statementsFrom firstOf run pastRun decimalValue textAt packed lexeme onOne lexemesIn next opens behindFirst joined startOf operandBy linksBy expressionIn named jump simpleAt relationAt labelsAt labelledForm isNameList form sameName wordFrom allKnown namesIn canDeclare numberOf canSet jumpsIn all firstUnset statement onOutcome program notAllowed
-e1 = refl
+-- "2147483648 gives 6."
+abbrev pub constantTooGreat : Example
+constantTooGreat = example "%BEGIN\n%INTEGER A\n A = 2147483648\n%ENDOFPROGRAM" (refusal 6 3)
 
-e2 : answer (bytes "%BEGIN;;! hello ; %INTEGER A\n A = B\n->1\n%ENDOFPROGRAM") ≡ refusal 8 3
-unfolding bytes pick workedSheet fixed onFront code ordersOfAll temporaries expressionFields outside turn sourceEnd onTurn statementsFrom firstOf run pastRun decimalValue textAt packed lexeme onOne lexemesIn next opens behindFirst joined startOf operandBy linksBy expressionIn named jump simpleAt relationAt labelsAt labelledForm isNameList form sameName wordFrom allKnown namesIn canDeclare numberOf canSet jumpsIn all firstUnset statement onOutcome program notAllowed
-e2 = refl
+-- "name unknown"; "a statement of nothing is skipped" and a comment too, and neither is counted
+abbrev pub unknownName : Example
+unknownName = example "%BEGIN;;! hello ; %INTEGER A\n A = B\n->1\n%ENDOFPROGRAM" (refusal 8 3)
 
-e3 : answer (bytes "%BEGIN;;! hello ; %INT %EGER a a\n->1; aA = 2\n->1\n%ENDOFPROGRAM") ≡ refusal 9 3
-unfolding bytes pick workedSheet fixed onFront code ordersOfAll temporaries expressionFields outside turn sourceEnd onTurn statementsFrom firstOf run pastRun decimalValue textAt packed lexeme onOne lexemesIn next opens behindFirst joined startOf operandBy linksBy expressionIn named jump simpleAt relationAt labelsAt labelledForm isNameList form sameName wordFrom allKnown namesIn canDeclare numberOf canSet jumpsIn all firstUnset statement onOutcome program notAllowed
-e3 = refl
+-- "never set: first such jump"; "Spaces outside quotes vanish", in keywords and names too
+abbrev pub labelNeverSet : Example
+labelNeverSet = example "%BEGIN;;! hello ; %INT %EGER a a\n->1; aA = 2\n->1\n%ENDOFPROGRAM" (refusal 9 3)
 
-e4 : answer (bytes "%BEGIN;10: ! note\n%ENDOFPROGRAM") ≡ refusal 7 2
-unfolding bytes pick workedSheet fixed onFront code ordersOfAll temporaries expressionFields outside turn sourceEnd onTurn statementsFrom firstOf run pastRun decimalValue textAt packed lexeme onOne lexemesIn next opens behindFirst joined startOf operandBy linksBy expressionIn named jump simpleAt relationAt labelsAt labelledForm isNameList form sameName wordFrom allKnown namesIn canDeclare numberOf canSet jumpsIn all firstUnset statement onOutcome program notAllowed
-e4 = refl
+-- "A label never set is found at `%ENDOFPROGRAM`", so an unknown name in a later statement than the jump comes first
+abbrev pub unknownNameBehindUnsetJump : Example
+unknownNameBehindUnsetJump = example "%BEGIN\nSEND(1)\n->1\nSEND(A)\n%ENDOFPROGRAM" (refusal 8 4)
 
-e5 : answer (bytes "%BEGIN;send('A' 'B')\n%ENDOFPRO%C\n%GRAM") ≡ accepted (sheet 0 (simple (send (constant 4269890)) ∷ []))
+-- "`10: ! note` gives 7."
+abbrev pub noteBehindLabel : Example
+noteBehindLabel = example "%BEGIN;10: ! note\n%ENDOFPROGRAM" (refusal 7 2)
+
+-- "`'A' 'B'` is `'A''B'`, 4269890."; a newline behind a keyword letter C "is dropped with that C"
+abbrev pub quotesApart : Example
+quotesApart =
+    example
+    "%BEGIN;send('A' 'B')\n%ENDOFPRO%C\n%GRAM"
+    (accepted (sheet 0 (simple (send (constant 4269890)) ∷ [])))
+
+abbrev pub examples : List Example
+examples =
+    worked
+    ∷ emptySource
+    ∷ constantTooGreat
+    ∷ unknownName
+    ∷ labelNeverSet
+    ∷ unknownNameBehindUnsetJump
+    ∷ noteBehindLabel
+    ∷ quotesApart
+    ∷ []
+
+pub all-answered : map (λ e. answer (bytes (e .source))) examples ≡ map (λ e. e .is) examples
 unfolding bytes pick workedSheet fixed onFront code ordersOfAll temporaries expressionFields outside turn sourceEnd onTurn statementsFrom firstOf run pastRun decimalValue textAt packed lexeme onOne lexemesIn next opens behindFirst joined startOf operandBy linksBy expressionIn named jump simpleAt relationAt labelsAt labelledForm isNameList form sameName wordFrom allKnown namesIn canDeclare numberOf canSet jumpsIn all firstUnset statement onOutcome program notAllowed
-e5 = refl
+all-answered = refl
