@@ -58,6 +58,7 @@ fn worked_source() {
 }
 
 // "2147483648 gives 6. Chapter 1's `'JIM''S'` (five characters) and `''` give 6. `'A' 'B'` is `'A''B'`, 4269890."
+// "1<<32 faults 3" when it is run: as a source it is good.
 fn constants() {
     read(
         b"2147483647",
