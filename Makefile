@@ -1,4 +1,4 @@
-.PHONY: test demo bench
+.PHONY: test edits demo bench
 
 CFLAGS = -std=c99 -Wall -Wextra -Werror -O2
 ARCHIVE = target/staticlib/libskimp.a
@@ -6,6 +6,10 @@ ARCHIVE = target/staticlib/libskimp.a
 # The gate: proofs, must-fail edits, programs, the tests in rust/, and the supervisor in examples/.
 test:
 	@tools/gate
+
+# The must-fail edits of one crate: make edits CRATE=name
+edits:
+	@tools/edits $(CRATE)
 
 # What the project does so far: document 01's readings of word arithmetic, and its worked object run in slices.
 demo:

@@ -2,3 +2,5 @@ pub mod Cases
 pub mod Lists
 pub mod Numbers
 pub mod Arms
+pub mod Places
+pub mod Fronts

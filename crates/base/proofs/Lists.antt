@@ -1,12 +1,12 @@
 -- Laws of lists that the kit lacks, over any element type. `sets l i vs` is l with the elements of vs stored from place i on.
-use Prim.Native.Nat.{ℕ, zero, suc, _+_, _<_, _≤_}
+use Prim.Native.Nat.{ℕ, zero, suc, _+_, _-_, _<_, _≤_}
 use mathlib.Core.Path.{_≡_, refl, sym, ap, ap₂, _∙_}
 use mathlib.Core.List.{List, [], _∷_, _++_, map, append-nil}
 use native.Mathlib.Omega.{arith}
 use native.Mathlib.Nat.{add-zero, add-suc, suc-add}
 use native.Mathlib.Numerals.{add-one}
-use lib.ListN.{length, getD, take, drop, set, replicate, length-set, length-append, drop-of-length-le, List·getD-map}
-use lib.Seq.{sets, sets-eq, drop-cons, take-suc, getD-set-same, getD-set-other, length-take-le, take-at, drop-at}
+use lib.ListN.{length, getD, take, drop, set, replicate, length-set, length-append, length-drop, drop-of-length-le, List·getD-map, List·getD-append}
+use lib.Seq.{sets, sets-eq, drop-cons, take-suc, getD-set-same, getD-set-other, length-take-le, take-at, drop-at, take-all, getD-append-add}
 
 module _ {A : Type 0} where
   -- ---- one element more, as a loop's counter has it
@@ -81,6 +81,20 @@ module _ {A : Type 0} where
       let three : i + 3 ≡ suc (suc (suc i)) = omega arith in
       rw (one, two, three)
 
+  -- ---- a part of a list: `count` elements from place `from` on
+
+  module _ (s : List A) (from count : ℕ) where
+    pub part-none : length s ≤ from → [] ≡ take count (drop from s)
+    part-none h = rw (drop-of-length-le s h) (sym (take-all count [] (omega arith)))
+
+    pub part-rest : length s - from ≤ count → take (length s - from) (drop from s) ≡ take count (drop from s)
+    part-rest h =
+        take-all (length s - from) (drop from s) (rw (length-drop from s) (omega arith))
+        ∙ sym (take-all count (drop from s) (rw (length-drop from s) h))
+
+    pub part-inside : take (from + count - from) (drop from s) ≡ take count (drop from s)
+    part-inside = let e : from + count - from ≡ count = omega arith in rw e refl
+
   -- ---- a list that repeats one element
 
   pub getD-repeated : (n i : ℕ) (d : A) → getD (replicate n d) i d ≡ d
@@ -97,3 +111,17 @@ each-cons P a d l n here there (suc i) h = there i (omega arith)
 -- what holds of every element of a table, as a computation over the whole table shows it, holds at each place
 pub map-at : {A B : Type 0} (f g : A → B) (l : List A) (d : A) → map f l ≡ map g l → f d ≡ g d → (k : ℕ) → f (getD l k d) ≡ g (getD l k d)
 map-at f g l d all default k = sym (List·getD-map f l k d) ∙ ap₂ (λ m e. getD m k e) all default ∙ List·getD-map g l k d
+
+-- the last of a list stands for every place behind it
+pub last-of : {A : Type 0} (xs : List A) (a : A) (k : ℕ) → length xs ≤ k → a ≡ getD (xs ++ a ∷ []) k a
+last-of xs a k h =
+    let e : length xs + (k - length xs) ≡ k = omega (arith, h) in
+    sym (rw e at (getD-append-add xs (a ∷ []) (k - length xs) a) ∙ one (k - length xs))
+  where
+    one : (j : ℕ) → getD (a ∷ []) j a ≡ a
+    one zero = refl
+    one (suc j) = refl
+
+-- what stands in the middle of a list
+pub among : {A : Type 0} (before xs after : List A) (k : ℕ) (d : A) → k < length xs → getD (before ++ (xs ++ after)) (length before + k) d ≡ getD xs k d
+among before xs after k d h = getD-append-add before (xs ++ after) k d ∙ List·getD-append xs after d k h

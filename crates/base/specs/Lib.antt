@@ -1,2 +1,4 @@
 pub mod Choice
+pub mod Places
 pub mod Text
+pub mod Front

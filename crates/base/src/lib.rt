@@ -1,8 +1,9 @@
-// What several crates use: the larger of two numbers, and reading and storing at any place. Behind the end of a slice 0 is read and nothing is
-// stored, so these need no bounds. Definitions and laws are in specs/ and proofs/.
+// What several crates use: the larger of two numbers, reading and storing at any place, and parts of a slice. Behind the end of
+// a slice 0 is read, nothing is stored and a part has ended, so these need no bounds. Definitions and laws are in specs/ and
+// proofs/.
 ghost use mathlib.Core.Path.{_≡_};
 ghost use Prim.Native.Nat.{max};
-ghost use lib.ListN.{getD, set};
+ghost use lib.ListN.{getD, set, take, drop};
 
 pub fn larger(a: u32, b: u32) -> u32
     ensures { λ r. ⌜ r ≡ max a b ⌝ }
@@ -45,4 +46,18 @@ pub fn put_word(words: &mut [u32], i: usize, w: u32)
     if i < words.len() {
         words[i] = w;
     }
+}
+
+// A part of a slice: `count` bytes from a place on, fewer where the slice ends before.
+pub fn part(s: &[u8], from: usize, count: usize) -> &[u8]
+    ensures { λ r. ⌜ now r ≡ take count (drop from (now (s .entry))) ⌝ }
+{
+    if s.len() <= from {
+        return &s[..0];
+    }
+    if s.len() - from <= count {
+        return &s[from..];
+    }
+    let end = from + count;
+    &s[from..end]
 }

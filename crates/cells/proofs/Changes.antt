@@ -1,5 +1,5 @@
 -- What a byte does, told by the number of cells held and the last of them, is what the definitions say of the cells.
-use Prim.Native.Nat.{ℕ, suc, _+_, _-_, _<_}
+use Prim.Native.Nat.{ℕ, suc, _-_, _<_}
 use mathlib.Core.Path.{_≡_, refl}
 use mathlib.Core.Bool.{Bool, true, false}
 use mathlib.Core.List.{List, [], _∷_, _++_}
@@ -11,8 +11,8 @@ use Rattle.base.specs.Choice.{pick}
 use Rattle.base.proofs.Cases.{by-test, either-part}
 use Rattle.source.specs.declared.Mode.{Mode}
 use Rattle.source.specs.declared.Mode.the-variants.{Plain, Keyword, Quoted, Comment}
-use Rattle.source.specs.Cells.{capital, small, Turn, goesOn, ends, over, turn, kept, outside}
-use Rattle.source.specs.Cells.{exclamation, closes, endsInC, Statements, ended, cut, _then_, atLast, newline, sourceEnd}
+use Rattle.source.specs.Cells.{capital, small, Turn, goesOn, ends, over, turn, kept, outside, exclamation, closes, endsInC, Statements, ended, cut}
+use Rattle.source.specs.Cells.{_then_, atLast, newline, sourceEnd}
 use Rattle.cells.specs.declared.byte.Change.{Change}
 use Rattle.cells.specs.declared.byte.Change.the-variants.{Keep, Skip, Shorten, End, Over}
 use Rattle.cells.specs.declared.byte.Ending.{Ending}

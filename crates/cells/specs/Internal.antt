@@ -8,6 +8,7 @@ use lib.ListN.{length, getD, take, drop}
 use Rattle.base.specs.Choice.{pick}
 use Rattle.source.specs.declared.Mode.{Mode}
 use Rattle.source.specs.declared.Mode.the-variants.{Plain, Keyword, Quoted, Comment}
+use Rattle.source.specs.Limits.{mostCells}
 use Rattle.source.specs.Cells.{isCapital, isSmall, capital, small, behindComment, Turn, goesOn, ends, over, statementsFrom}
 use Rattle.cells.specs.declared.byte.Change.{Change}
 use Rattle.cells.specs.declared.byte.Change.the-variants.{Keep, Skip, Shorten, End, Over}
@@ -24,13 +25,13 @@ abbrev pub isLetter : ℕ → Bool
 isLetter b = pick (isCapital b) true (isSmall b)
 
 abbrev pub keptOf : ℕ → Mode → ℕ → Change
-keptOf c m held = pick (ltb held 256) (Keep c m) Over
+keptOf c m held = pick (ltb held mostCells) (Keep c m) Over
 
 abbrev pub closesOf : ℕ → Change
 closesOf last = pick (eqb last 99) Shorten End
 
 abbrev pub newlineOf : ℕ → ℕ → Change
-newlineOf held last = pick (eqb held 0) (Skip Plain) (pick (ltb held 256) (closesOf last) Over)
+newlineOf held last = pick (eqb held 0) (Skip Plain) (pick (ltb held mostCells) (closesOf last) Over)
 
 abbrev pub exclamationOf : ℕ → Change
 exclamationOf held = pick (eqb held 0) (Skip Comment) (keptOf 33 Plain held)
@@ -97,8 +98,8 @@ reached cells held StepOver = over
 
 -- the numbers of cells that a step may leave
 abbrev pub Bounded : ℕ → Step → Type 0
-Bounded held (On m n) = (n ≤ 256) × (n ≤ held + 1)
-Bounded held Ends = (0 < held) × (held < 256)
+Bounded held (On m n) = (n ≤ mostCells) × (n ≤ held + 1)
+Bounded held Ends = (0 < held) × (held < mostCells)
 Bounded held StepOver = Unit {0}
 
 pub record Stepped (cells : List ℕ) (held : ℕ) (r : Step) (t : Turn) : Type 0 where

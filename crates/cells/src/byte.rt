@@ -1,11 +1,15 @@
 // What a byte does, and what the end of the source does, to the cells of the statement that is being read. `held` is the
 // number of cells held, and `last` the last of them, or 0. Comments in quotes are document 01's words.
+use source::MOST_CELLS;
 use source::Mode;
+use source::letters::is_capital;
+use source::letters::is_small;
 ghost use mathlib.Core.Path.{_≡_};
 ghost use lib.Dec.{ltb};
-ghost use Rattle.source.specs.Cells.{isCapital, isSmall, capital, small, behindComment};
-ghost use Rattle.cells.specs.Internal.{isLetter, keptOf, closesOf, newlineOf, exclamationOf};
-ghost use Rattle.cells.specs.Internal.{outsideOf, quotedOf, changeOf, overAtEnd, endingOutside, endingOf};
+ghost use Rattle.source.specs.Limits.{mostCells};
+ghost use Rattle.source.specs.Cells.{capital, small, behindComment};
+ghost use Rattle.cells.specs.Internal.{isLetter, keptOf, closesOf, newlineOf, exclamationOf, outsideOf, quotedOf, changeOf, overAtEnd};
+ghost use Rattle.cells.specs.Internal.{endingOutside, endingOf};
 
 // One cell more and the mode behind it, none, or one less; the end of the statement; or a cell too many.
 pub enum Change {
@@ -21,24 +25,6 @@ pub enum Ending {
     Whole,
     Nothing,
     Cut(u32),
-}
-
-fn is_capital(b: u8) -> bool
-    ensures { λ r. ⌜ r ≡ isCapital b ⌝ }
-{
-    if b < 65 {
-        return false;
-    }
-    b <= 90
-}
-
-fn is_small(b: u8) -> bool
-    ensures { λ r. ⌜ r ≡ isSmall b ⌝ }
-{
-    if b < 97 {
-        return false;
-    }
-    b <= 122
 }
 
 fn is_letter(b: u8) -> bool
@@ -72,9 +58,9 @@ fn small(b: u8) -> u8
 
 // "A statement may hold 256 cells at any moment": whether one more is not too many.
 fn has_room(held: usize) -> bool
-    ensures { λ r. ⌜ r ≡ ltb held 256 ⌝ }
+    ensures { λ r. ⌜ r ≡ ltb held mostCells ⌝ }
 {
-    held < 256
+    held < MOST_CELLS
 }
 
 fn kept(c: u8, m: Mode, held: usize) -> Change

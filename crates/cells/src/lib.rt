@@ -3,6 +3,7 @@ mod byte;
 
 use byte::Change;
 use byte::Ending;
+use source::MOST_CELLS;
 use source::Mode;
 use source::Statement;
 ghost use mathlib.Core.Path.{_≡_};
@@ -10,6 +11,7 @@ ghost use mathlib.Core.List.{[]};
 ghost use Prim.Native.Nat.{_≤_};
 ghost use lib.ListN.{length, take, drop};
 ghost use Rattle.source.specs.declared.Mode.the-variants.{Plain};
+ghost use Rattle.source.specs.Limits.{mostCells};
 ghost use Rattle.source.specs.Cells.{turn, statementsFrom};
 ghost use Rattle.source.specs.Source.{isAllowed, notAllowed};
 ghost use Rattle.cells.specs.Answers.{foundAt, unrolled, Moved};
@@ -87,7 +89,7 @@ fn last_held(cells: &[u8], held: usize) -> u8
 
 // One byte more.
 fn take_byte(cells: &mut [u8], mode: Mode, held: usize, b: u8) -> Step
-    requires { ⌜ (256 ≤ length (now cells)) × (held ≤ 256) ⌝ }
+    requires { ⌜ (mostCells ≤ length (now cells)) × (held ≤ mostCells) ⌝ }
     ensures { λ r. ⌜ Stepped (now (cells .exit)) held r (turn mode b (take held (now (cells .entry)))) ⌝ }
 {
     let last = last_held(cells, held);
@@ -105,7 +107,7 @@ fn take_byte(cells: &mut [u8], mode: Mode, held: usize, b: u8) -> Step
 
 // The cells of the next statement, put into an array.
 fn gather(source: &[u8], at: usize, cells: &mut [u8]) -> Gathering
-    requires { ⌜ 256 ≤ length (now cells) ⌝ }
+    requires { ⌜ mostCells ≤ length (now cells) ⌝ }
     ensures { λ r. ⌜ Gathered (now (source .entry)) at (now (cells .exit)) (r .length) (r .reading) ⌝ }
 {
     let mut mode = Mode::Plain;
@@ -150,7 +152,7 @@ pub fn next_statement(source: &[u8], at: usize) -> Next
     ensures read { λ r. ⌜ unrolled (now (source .entry)) r ≡ statementsFrom Plain [] (drop at (now (source .entry))) ⌝ }
     ensures moved { λ r. ⌜ Moved at (length (now (source .entry))) r ⌝ }
 {
-    let mut cells = [0u8; 256];
+    let mut cells = [0u8; MOST_CELLS];
     let gathering = gather(source, at, &mut cells);
     let reading = gathering.reading;
     let length = gathering.length;

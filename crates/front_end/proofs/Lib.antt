@@ -1,6 +1,1 @@
-pub mod Finishing
-pub mod Forms
-pub mod Instructing
-pub mod Placing
 pub mod Statements
-pub mod Steps

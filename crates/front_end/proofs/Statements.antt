@@ -5,34 +5,34 @@ use mathlib.Core.List.{List, [], _∷_, map}
 use native.Mathlib.Omega.{arith}
 use native.Mathlib.Numerals.{add-one}
 use lib.ListN.{length, drop}
+use Rattle.base.specs.Choice.{pick}
+use Rattle.base.specs.Places.{each}
+use Rattle.base.proofs.Cases.{by-test}
 use Rattle.sheet.specs.Sheet.{Sheet, Instruction, simple, when, either, Simple, set, send, goto, variables, instructions}
 use Rattle.sheet.specs.Fields.{instructionFields}
 use Rattle.sheet.specs.Translation.{ordersOfAll}
-use Rattle.translate.proofs.Lengths.{instruction-twice}
+use Rattle.sheet_field.specs.Memory.{fieldsFrom}
+use Rattle.translate_size.proofs.Lengths.{instruction-twice}
 use Rattle.source.specs.declared.Mode.the-variants.{Plain}
 use Rattle.source.specs.Cells.{Statements, ended, cut, _then_, statementsFrom, statements}
 use Rattle.source.specs.Program.{Program, nothingRead, Placed, placed, instructionOf, Outcome, statement}
-use Rattle.base.specs.Choice.{pick}
-use Rattle.base.proofs.Cases.{by-test}
-use borrow.Author.Tests.{lt-ltb, le-ltb}
 use Rattle.source.specs.Source.{Answer, accepted, onOutcome, program, NotAllowed, isAllowed, notAllowed, offset, allAllowed, onAllowed, answer}
+use Rattle.source.specs.Memory.{held}
 use Rattle.cells.specs.declared.Found.{Found}
 use Rattle.cells.specs.declared.Found.the-variants.{At, Missing}
-use Rattle.cells.specs.Answers.{foundAt}
-use Rattle.source.specs.Memory.{held}
 use Rattle.cells.specs.declared.Next.{Next}
 use Rattle.cells.specs.declared.Reading.the-variants.{Statement, Ended, Cut}
-use Rattle.cells.specs.Answers.{unrolled, Moved, Within}
-use Rattle.front_end.specs.declared.statement.Progress.{Progress}
-use Rattle.front_end.specs.declared.statement.Step.{Step}
-use Rattle.front_end.specs.declared.statement.Step.the-variants.{Further, Refused, Given}
+use Rattle.cells.specs.Answers.{foundAt, unrolled, Moved, Within}
+use Rattle.front_end_forms.specs.declared.Progress.{Progress}
+use Rattle.front_end_forms.specs.declared.Step.{Step}
+use Rattle.front_end_forms.specs.declared.Step.the-variants.{Further, Refused, Given}
+use Rattle.front_end_forms.specs.Answers.{Holds, Held, Comes, FewCounts, noProgress, placedFields, AllPacked}
+use Rattle.front_end_forms.proofs.Steps.{says}
+use Rattle.front_end_forms.proofs.Placing.{fields-inside}
 use Rattle.front_end.specs.declared.Answer.the-variants.{Sheet as SheetIs}
 use Rattle.front_end.specs.Answers.{told, answered, fieldsOfSheet, refusedAt}
-use Rattle.front_end.specs.Internal.{Holds, Held, Comes, FewCounts, Rooms, Going, noProgress, placedFields, AllPacked}
-use Rattle.front_end.proofs.Steps.{says}
-use Rattle.tables.specs.Tables.{each}
-use Rattle.sheet.specs.Memory.{fieldsFrom}
-use Rattle.front_end.proofs.Placing.{fields-inside}
+use Rattle.front_end.specs.Internal.{Rooms, Going}
+use borrow.Author.Tests.{lt-ltb, le-ltb}
 
 -- ---- nothing was read
 

@@ -5,7 +5,7 @@ use lib.ListN.{length}
 use Rattle.sheet.specs.declared.Field.{Field}
 use Rattle.sheet.specs.Sheet.{variables, instructions}
 use Rattle.sheet.specs.Fields.{sheetFields}
-use Rattle.sheet.specs.Memory.{fieldsFrom}
+use Rattle.sheet_field.specs.Memory.{fieldsFrom}
 use Rattle.source.specs.Source.{Answer, accepted, refusal}
 use Rattle.front_end.specs.declared.Answer.{Answer as Reply}
 use Rattle.front_end.specs.declared.Answer.the-variants.{Sheet, Refused}

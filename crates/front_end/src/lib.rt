@@ -1,18 +1,18 @@
 // From source bytes to a sheet, or to the number and place of a refusal, document 01 ("What the box replies").
-mod statement;
-
-use crate::statement::Step;
-use crate::statement::nothing_read;
-use crate::statement::statement;
 use cells::Found;
 use cells::Reading;
 use cells::next_statement;
 use cells::not_allowed;
-use sheet::MOST_FIELDS;
+use front_end_forms::Step;
+use front_end_forms::nothing_read;
+use front_end_statement::statement;
+use sheet_field::MOST_FIELDS;
+use source::MOST_BYTES;
+use source::MOST_CELLS;
+use source::TABLE_ROWS;
 ghost use mathlib.Core.Path.{_≡_};
-ghost use Prim.Native.Nat.{_≤_};
 ghost use lib.ListN.{length};
-ghost use Rattle.sheet.specs.Memory.{mostFields};
+ghost use Rattle.sheet_field.specs.Memory.{mostFields};
 ghost use Rattle.source.specs.Cells.{statements};
 ghost use Rattle.source.specs.Program.{nothingRead};
 ghost use Rattle.source.specs.Source.{program, answer};
@@ -76,13 +76,13 @@ pub fn read(source: &[u8], kinds: &mut [u8], values: &mut [u32]) -> Answer
     if values.len() != MOST_FIELDS {
         return Answer::Refused(0, 0);
     }
-    if 16384 < source.len() {
+    if MOST_BYTES < source.len() {
         return Answer::Refused(1, 0);
     }
     if let Found::At(i) = not_allowed(source) {
         return Answer::Refused(2, i as u32);
     }
-    let mut names = [0u8; 49152];
-    let mut labels = [0u32; 192];
+    let mut names = [0u8; TABLE_ROWS as usize * MOST_CELLS];
+    let mut labels = [0u32; TABLE_ROWS as usize];
     read_statements(source, &mut names, &mut labels, kinds, values)
 }

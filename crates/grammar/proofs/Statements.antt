@@ -16,12 +16,15 @@ use Rattle.source.specs.declared.Token.the-variants.{Name, Number, Quoted, Bina
 use Rattle.source.specs.Tokens.{markBegin, markEnd, markInteger, markComma, markColon}
 use Rattle.source.specs.Grammar.{Read, read, none, opens, behindFirst, isMark, isName, isNameList, instructionAt}
 use Rattle.source.specs.Grammar.{Labelled, labelled, further, labelsAt, labelledForm, whole, alone, form, Form}
-use Rattle.source.specs.Grammar.{beginning, declaration, ending, labels, instruction, noForm}
+use Rattle.source.specs.Grammar.{beginning, declaration, ending, noForm}
 use Rattle.source.specs.Memory.{tokenCarried, tokenOf, tokensFrom}
+use Rattle.grammar_look.specs.Internal.{left, firstName, firstLabel, isNumber}
+use Rattle.grammar_look.proofs.Places.{left-length, left-more, left-none, left-behind, left-two, left-one}
+use Rattle.grammar_expression.specs.Internal.{written}
+use Rattle.grammar_instruction.specs.Internal.{instructionPass}
 use Rattle.grammar.specs.Answers.{begins, declares, ends, labels as labelsTold, instruction as instructionTold, nothing, fieldsOf}
 use Rattle.grammar.specs.Answers.{labelsIn}
-use Rattle.grammar.specs.Internal.{left, firstName, firstLabel, isNumber, furtherAll, LabelsOf, written, instructionPass}
-use Rattle.grammar.proofs.Places.{left-length, left-more, left-none, left-behind, left-two, left-one}
+use Rattle.grammar.specs.Internal.{furtherAll, LabelsOf}
 
 pub left-all : (n : ℕ) (ks vs : List ℕ) → left n 0 ks vs ≡ tokensFrom 0 n ks vs
 left-all n ks vs = let e : n - 0 ≡ n = omega arith in ap (λ m. tokensFrom 0 m ks vs) e

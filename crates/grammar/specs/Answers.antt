@@ -4,7 +4,7 @@ use Prim.Native.Nat.{ℕ, zero, suc, _*_, _≤_}
 use mathlib.Core.List.{List, [], _∷_}
 use Rattle.sheet.specs.declared.Field.{Field}
 use Rattle.sheet.specs.Fields.{instructionFields}
-use Rattle.sheet.specs.Memory.{fieldsFrom}
+use Rattle.sheet_field.specs.Memory.{fieldsFrom}
 use Rattle.source.specs.declared.Token.{Token}
 use Rattle.source.specs.Grammar.{behindFirst, beginning, declaration, ending, noForm}
 use Rattle.source.specs.Grammar.{labels as labelsForm, instruction as instructionForm, Form as StatementForm}

@@ -1,21 +1,22 @@
 // The form of a statement, document 01 ("Statements"): from its tokens to its labels and the fields of its instruction.
-mod expression;
-mod instruction;
-mod look;
-mod output;
-
-use crate::instruction::instruction;
-use crate::look::label_at;
-use crate::look::mark_at;
-use crate::look::name_at;
-use crate::output::Step;
+use grammar_instruction::instruction;
+use grammar_look::label_at;
+use grammar_look::mark_at;
+use grammar_look::name_at;
+use grammar_output::Step;
+use source::marks::MARK_BEGIN;
+use source::marks::MARK_COMMA;
+use source::marks::MARK_END;
+use source::marks::MARK_INTEGER;
+ghost use mathlib.Core.Bool.{true, false};
 ghost use mathlib.Core.Path.{_≡_};
 ghost use Prim.Native.Nat.{_≤_, _*_};
 ghost use lib.ListN.{length};
 ghost use Rattle.source.specs.Grammar.{form, isNameList, labelledForm, labelsAt};
 ghost use Rattle.source.specs.Memory.{tokensFrom};
+ghost use Rattle.grammar_look.specs.Internal.{left};
 ghost use Rattle.grammar.specs.Answers.{fieldsOf, told, Few};
-ghost use Rattle.grammar.specs.Internal.{left, LabelsOf};
+ghost use Rattle.grammar.specs.Internal.{LabelsOf};
 
 // The form of a statement. `Labels(c)`: c labels alone; they are the numbers that the tokens 0, 2 .. carry. `Instruction(c, m)`:
 // c labels and an instruction, whose m fields fill the front of the two arrays.
@@ -38,7 +39,7 @@ fn is_name_list(kinds: &[u8], values: &[u32], n: usize, at: usize) -> bool
         if n - i == 1 {
             return true;
         }
-        if mark_at(kinds, values, n, i + 1, 44) {
+        if mark_at(kinds, values, n, i + 1, MARK_COMMA) {
             i += 2;
         } else {
             return false;
@@ -79,6 +80,23 @@ fn labelled(kinds: &[u8], values: &[u32], n: usize, fields: &mut [u8], carried: 
     Form::Nothing
 }
 
+// Whether n tokens are more than a statement can have, or than one of two arrays has room for.
+fn is_long(n: usize, room: usize, other: usize) -> bool
+    ensures long { λ r. ⌜ (r ≡ true → n ≤ 256 → n ≤ room → n ≤ other → ⊥) ⌝ }
+    ensures short { λ r. ⌜ (r ≡ false → (n ≤ 256) × (n ≤ room) × (n ≤ other)) ⌝ }
+{
+    if 256 < n {
+        return true;
+    }
+    if room < n {
+        return true;
+    }
+    if other < n {
+        return true;
+    }
+    false
+}
+
 // The form of the statement whose tokens are the first n of two arrays. A statement has no more tokens than the 256 cells that
 // it can hold, and no more fields than tokens.
 pub fn form_of(
@@ -96,28 +114,22 @@ pub fn form_of(
     ensures kept { λ _. ⌜ (length (now (fields .exit)) ≡ length (now (fields .entry)))
         × (length (now (carried .exit)) ≡ length (now (carried .entry))) ⌝ }
 {
-    if 256 < n {
+    if is_long(n, fields.len(), carried.len()) {
         return Form::Nothing;
     }
-    if fields.len() < n {
-        return Form::Nothing;
-    }
-    if carried.len() < n {
-        return Form::Nothing;
-    }
-    if mark_at(kinds, values, n, 0, 128) {
+    if mark_at(kinds, values, n, 0, MARK_BEGIN) {
         if n == 1 {
             return Form::Begin;
         }
         return Form::Nothing;
     }
-    if mark_at(kinds, values, n, 0, 129) {
+    if mark_at(kinds, values, n, 0, MARK_END) {
         if n == 1 {
             return Form::End;
         }
         return Form::Nothing;
     }
-    if mark_at(kinds, values, n, 0, 130) {
+    if mark_at(kinds, values, n, 0, MARK_INTEGER) {
         if is_name_list(kinds, values, n, 1) {
             return Form::Declaration;
         }

@@ -1,8 +1,6 @@
 pub mod Worked
-pub mod Orders
 pub mod Effects
 pub mod Steps
-pub mod Looping
 pub mod Resume
 pub mod Alike
 pub mod Kept

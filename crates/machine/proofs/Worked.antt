@@ -5,9 +5,10 @@ use mathlib.Core.List.{List, [], _∷_}
 use lib.ListN.{replicate}
 use Rattle.base.specs.Choice.{pick}
 use Rattle.base.specs.Text.{bytes}
+use Rattle.base.specs.Front.{onFront}
 use Rattle.word.specs.declared.Relation.the-variants.{AtMost}
 use Rattle.word.specs.Word.{wrap, signed, word, sum, difference, product, negation, quotient, comparison}
-use Rattle.text.specs.Pieces.{digitsOf, onFront, fixed, digits, numeral}
+use Rattle.text.specs.Pieces.{digitsOf, fixed, digits, numeral}
 use Rattle.order.specs.declared.Operation.the-variants.{Load, Sub, Div, Cmp}
 use Rattle.order.specs.declared.Order.{Order}
 use Rattle.order.specs.declared.Order.the-variants.{Word, Number, Store, Jump, Branch, Send, Stop}

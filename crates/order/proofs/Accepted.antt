@@ -6,9 +6,9 @@ use native.Mathlib.Omega.{arith}
 use borrow.Author.Tests.{ltb-false, eqb-true}
 use lib.Dec.{ltb, eqb}
 use lib.ListN.{length, drop-of-length-le}
+use Rattle.base.specs.Front.{onFront}
 use Rattle.base.proofs.Cases.{chosen-first, chosen-second}
-use Rattle.text.specs.Pieces.{onFront}
-use Rattle.text.proofs.Fronts.{by-front}
+use Rattle.base.proofs.Fronts.{by-front}
 use Rattle.order.specs.declared.Order.{Order}
 use Rattle.order.specs.Object.{Header, Lines, object, headerText, recordsText, text, headerAt, linesAt}
 use Rattle.order.specs.Object.{firstStop, stopLast, exactly, reading, linesOf}

@@ -8,9 +8,11 @@ use borrow.Author.Tests.{lt-ltb, le-ltb, ltb-true, ltb-false}
 use lib.Dec.{ltb}
 use Rattle.base.specs.Choice.{pick}
 use Rattle.base.specs.Text.{bytes}
+use Rattle.base.specs.Front.{found, onFront}
 use Rattle.base.proofs.Cases.{chosen-second}
-use Rattle.text.specs.Pieces.{found, onFront, decimal, fixed, numeral}
-use Rattle.text.proofs.Fronts.{let-through, both-found, fixed-front, front-fixed}
+use Rattle.base.proofs.Fronts.{let-through, both-found}
+use Rattle.text.specs.Pieces.{decimal, fixed, numeral}
+use Rattle.text.proofs.Fronts.{fixed-front, front-fixed}
 use Rattle.text.proofs.Decimal.{numeral-decimal, decimal-numeral}
 use Rattle.order.specs.Object.{Header, headerText, withinLimits, headerAt}
 

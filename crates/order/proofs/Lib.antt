@@ -1,7 +1,3 @@
-pub mod Turns
-pub mod Numbering
-pub mod Scanning
-pub mod Judging
 pub mod Numbers
 pub mod Records
 pub mod HeaderText

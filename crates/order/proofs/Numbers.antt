@@ -1,17 +1,19 @@
 -- The number of an order and its operand tell the order: two arrays hold a program and lose nothing of it.
-use Prim.Native.Nat.{ℕ, zero, suc, _+_, _<_}
+use Prim.Native.Nat.{ℕ, zero, suc, _+_, _-_, _<_, _≤_}
 use mathlib.Core.Path.{_≡_, refl, sym, ap, ap₂, _∙_}
 use mathlib.Core.List.{List, [], _∷_, map}
 use native.Mathlib.Omega.{arith}
-use lib.ListN.{getD, List·getD-eq-default}
+use lib.ListN.{length, getD, List·getD-eq-default}
+use Rattle.base.specs.Places.{each}
 use Rattle.base.proofs.Cases.{by-less}
+use Rattle.base.proofs.Places.{each-length, from-more, from-over}
 use Rattle.word.specs.declared.Relation.{Relation}
 use Rattle.word.specs.declared.Relation.the-variants.{Equal, Unequal, Less, AtMost, Greater, AtLeast}
 use Rattle.order.specs.declared.Operation.{Operation}
 use Rattle.order.specs.declared.Operation.the-variants.{Load, Add, Sub, Mlt, Div, Exp, Shl, Shr, And, Or, Xor, Cmp}
 use Rattle.order.specs.declared.Order.{Order}
 use Rattle.order.specs.declared.Order.the-variants.{Word, Number, Store, Neg, Not, Jump, Branch, Send, Stop}
-use Rattle.order.specs.Order.{operand, operationNumber, branchNumber, number, shapes, orderOf, ordersOf}
+use Rattle.order.specs.Order.{operand, operationNumber, branchNumber, number, shapes, orderOf, ordersOf, ordersFrom}
 
 -- ---- one order
 
@@ -59,6 +61,11 @@ number-below o =
     (λ g. let past : number o ≡ 0 = ap number (sym (order-again o) ∙ ap (λ s. s (operand o)) (List·getD-eq-default shapes (λ v. Stop) g)) in
     absurd (omega arith))
 
+-- any other number stands for STOP
+pub no-order : (k v : ℕ) → 36 ≤ k → Stop ≡ orderOf k v
+unfolding shapes orderOf
+no-order k v h = ap (λ f. f v) (sym (List·getD-eq-default shapes (λ v. Stop) {n = k} h))
+
 -- ---- the orders of two arrays
 
 pub orders-again : (os : List Order) → ordersOf (map number os) (map operand os) ≡ os
@@ -73,3 +80,22 @@ ordersOf-at (k ∷ ks) [] zero = refl
 ordersOf-at (k ∷ ks) [] (suc i) = ordersOf-at ks [] i
 ordersOf-at (k ∷ ks) (v ∷ vs) zero = refl
 ordersOf-at (k ∷ ks) (v ∷ vs) (suc i) = ordersOf-at ks vs i
+
+-- the orders from a place on are what stands at each place
+module _ (ks vs : List ℕ) where
+  abbrev here : ℕ → Order
+  here i = orderOf (getD ks i 0) (getD vs i 0)
+
+  orders-each : (k n : ℕ) → ordersFrom k n ks vs ≡ each here k n
+  unfolding each ordersFrom
+  orders-each k zero = refl
+  orders-each k (suc n) = ap (λ l. here k ∷ l) (orders-each (suc k) n)
+
+  pub orders-length : (k n : ℕ) → length (ordersFrom k n ks vs) ≡ n
+  orders-length k n = ap length (orders-each k n) ∙ each-length here k n
+
+  pub orders-more : (k n : ℕ) → k < n → ordersFrom k (n - k) ks vs ≡ here k ∷ ordersFrom (k + 1) (n - (k + 1)) ks vs
+  orders-more = from-more here (λ k n. ordersFrom k n ks vs) orders-each
+
+  pub orders-over : (k n : ℕ) → n ≤ k → ordersFrom k (n - k) ks vs ≡ []
+  orders-over = from-over here (λ k n. ordersFrom k n ks vs) orders-each

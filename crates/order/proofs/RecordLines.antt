@@ -5,9 +5,9 @@ use mathlib.Core.Path.{_≡_, refl, sym, ap, _∙_}
 use mathlib.Core.List.{List, [], _∷_, _++_, append-assoc}
 use native.Mathlib.Omega.{arith}
 use lib.ListN.{length, getD}
+use Rattle.base.specs.Front.{onFront}
 use Rattle.base.proofs.Lists.{each-cons}
-use Rattle.text.specs.Pieces.{onFront}
-use Rattle.text.proofs.Fronts.{by-front}
+use Rattle.base.proofs.Fronts.{by-front}
 use Rattle.order.specs.declared.Order.{Order}
 use Rattle.order.specs.declared.Order.the-variants.{Stop}
 use Rattle.order.specs.Order.{operand}

@@ -8,9 +8,11 @@ use lib.Dec.{eqb}
 use lib.ListN.{getD}
 use Rattle.base.specs.Choice.{pick}
 use Rattle.base.specs.Text.{bytes}
+use Rattle.base.specs.Front.{found, missing, onFront}
 use Rattle.base.proofs.Lists.{map-at}
-use Rattle.text.specs.Pieces.{Front, found, missing, onFront, decimal, fixed, numeral}
-use Rattle.text.proofs.Fronts.{never, let-through, both-found, by-front, front-fixed}
+use Rattle.base.proofs.Fronts.{never, let-through, both-found, by-front}
+use Rattle.text.specs.Pieces.{Front, decimal, fixed, numeral}
+use Rattle.text.proofs.Fronts.{front-fixed}
 use Rattle.text.proofs.Decimal.{numeral-decimal, decimal-numeral}
 use Rattle.order.specs.declared.Order.{Order}
 use Rattle.order.specs.declared.Order.the-variants.{Stop}

@@ -7,9 +7,9 @@ use borrow.Author.Tests.{eqb-false}
 use lib.Dec.{ltb, eqb}
 use lib.ListN.{length}
 use Rattle.base.specs.Choice.{pick}
+use Rattle.base.specs.Front.{onFront}
 use Rattle.base.proofs.Cases.{either-part}
-use Rattle.text.specs.Pieces.{onFront}
-use Rattle.text.proofs.Fronts.{by-front}
+use Rattle.base.proofs.Fronts.{by-front}
 use Rattle.order.specs.declared.Order.{Order}
 use Rattle.order.specs.declared.Order.the-variants.{Word, Number, Store, Neg, Not, Jump, Branch, Send, Stop}
 use Rattle.order.specs.Object.{Header, Lines, Reading, object, refused, headerAt, linesAt}

@@ -4,7 +4,7 @@ use Prim.Native.Nat.{ℕ}
 use mathlib.Core.Path.{_≡_, sym, _∙_}
 use mathlib.Core.List.{List}
 use lib.ListN.{length}
-use Rattle.text.specs.Pieces.{onFront}
+use Rattle.base.specs.Front.{onFront}
 use Rattle.order.specs.declared.Order.{Order}
 use Rattle.order.specs.Object.{object, recordsText, text, reading, linesOf}
 use Rattle.order.specs.Good.{Good}

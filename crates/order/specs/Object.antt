@@ -7,7 +7,8 @@ use lib.Dec.{ltb, eqb}
 use lib.ListN.{length}
 use Rattle.base.specs.Choice.{pick}
 use Rattle.base.specs.Text.{bytes}
-use Rattle.text.specs.Pieces.{decimal, Front, found, missing, onFront, fixed, numeral}
+use Rattle.base.specs.Front.{found, missing, onFront}
+use Rattle.text.specs.Pieces.{decimal, Front, fixed, numeral}
 use Rattle.order.specs.declared.Order.{Order}
 use Rattle.order.specs.declared.Order.the-variants.{Word, Number, Store, Neg, Not, Jump, Branch, Send, Stop}
 use Rattle.order.specs.Limits.{mostVariables, mostTemporaries, mostOrders}

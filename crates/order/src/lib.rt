@@ -1,8 +1,5 @@
-// Orders and object text, document 01.
-pub mod number;
-pub mod object;
-mod record;
-
+// Orders and object text, document 01: the orders of the box, the limits of an object, what its text is and how it is read
+// (specs/), and that both agree (proofs/).
 use word::Relation;
 
 // The limits of specs/Limits.antt.

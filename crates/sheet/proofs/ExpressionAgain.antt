@@ -6,6 +6,7 @@ use native.Mathlib.Omega.{arith}
 use borrow.Author.Tests.{eq-eqb}
 use lib.ListN.{length, length-append, length-reverseAux}
 use Rattle.base.specs.Choice.{pick}
+use Rattle.base.specs.Front.{found, onFront}
 use Rattle.order.specs.declared.Operation.{Operation}
 use Rattle.order.specs.declared.Operation.the-variants.{Load, Cmp}
 use Rattle.order.specs.declared.Order.{Order}
@@ -17,7 +18,7 @@ use Rattle.sheet.specs.Sheet.{Expression, word, constant, negated, inver
 use Rattle.sheet.specs.Sheet.{workedOut, operand}
 use Rattle.sheet.specs.Translation.{operation, temporary, joined, code, comparisonCode}
 use Rattle.sheet.specs.Within.{Expressed}
-use Rattle.sheet.specs.ReadBack.{Back, found, onBack, Operands, operands}
+use Rattle.sheet.specs.ReadBack.{Back, Operands, operands}
 use Rattle.sheet.specs.ReadBack.{plainOperands, wordOperands, byOperation, asBinary, lastOrder, expressionBack}
 use Rattle.sheet.specs.ReadBack.{lastCompares, comparisonBack}
 use Rattle.sheet.proofs.Found.{as-expected, variable-yes, variable-no}
@@ -103,7 +104,7 @@ Reads read v d e = (rest : List Order) → read d (reverseAux (code v d e) rest)
 
 module _ (read : ℕ → List Order → Back Expression) (v d : ℕ) (l : Expression) (reads : Reads read v d l) (rest : List Order) where
   plain-again : (r : Expression) → plainOperands read d r (reverseAux (code v d l) rest) ≡ found (operands l r) rest
-  unfolding onBack
+  unfolding onFront
   plain-again r = rw (reads rest)
 
   module _ (r : Expression) (reads-right : Reads read v (suc d) r) where
@@ -111,7 +112,7 @@ module _ (read : ℕ → List Order → Back Expression) (v d : ℕ) (l : Expres
         operand r ≡ workedOut
         → operandsOf read v d workedOut (ahead v d workedOut (code v d l) (code v (suc d) r) rest)
         ≡ found (operands l r) rest
-    unfolding onBack pick
+    unfolding onFront pick
     kept-again worked =
         rw (variable-no v (temporary v (suc d)) (omega arith), eq-eqb (temporary v (suc d)) (temporary v (suc d)) refl)
         (as-expected (Word Load (temporary v d)) _ _
@@ -146,7 +147,7 @@ last-compares read v workedOut l = refl
 
 pub expression-again :
     (most v d : ℕ) (e : Expression) → Expressed v e → length (code v d e) ≤ most → Reads (expressionBack most v) v d e
-unfolding expressionBack code Expressed onBack pick
+unfolding expressionBack code Expressed onFront pick
 expression-again zero v d e x h rest = let a = code-some v d e in absurd (omega arith)
 expression-again (suc most) v d (word w) x h rest = rw (variable-yes v w x)
 expression-again (suc most) v d (constant n) x h rest = refl

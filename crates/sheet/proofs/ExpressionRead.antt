@@ -8,7 +8,9 @@ use borrow.Author.Tests.{eqb-true}
 use lib.Dec.{eqb}
 use lib.ListN.{length}
 use Rattle.base.specs.Choice.{pick}
+use Rattle.base.specs.Front.{found}
 use Rattle.base.proofs.Cases.{by-test}
+use Rattle.base.proofs.Fronts.{never, let-through, both-found}
 use Rattle.order.specs.declared.Operation.{Operation}
 use Rattle.order.specs.declared.Operation.the-variants.{Load, Add, Sub, Mlt, Div, Exp, Shl, Shr, And, Or, Xor, Cmp}
 use Rattle.order.specs.declared.Order.{Order}
@@ -21,11 +23,11 @@ use Rattle.sheet.specs.Sheet.{Expression, word, constant, negated, inver
 use Rattle.sheet.specs.Sheet.{workedOut, operand}
 use Rattle.sheet.specs.Translation.{operation, temporary, joined, code}
 use Rattle.sheet.specs.Within.{Expressed}
-use Rattle.sheet.specs.ReadBack.{Back, found, onBack, Operands, operands, isVariable, isWorkedOut}
+use Rattle.sheet.specs.ReadBack.{Back, onBack, Operands, operands, isVariable, isWorkedOut}
 use Rattle.sheet.specs.ReadBack.{plainOperands, keptOperands, wordOperands, byOperation, asBinary, lastOrder}
 use Rattle.sheet.specs.ReadBack.{expressionBack}
 use Rattle.sheet.specs.ReadBack.{lastCompares, comparisonBack}
-use Rattle.sheet.proofs.Found.{never, let-through, both-found, expected, variable-told}
+use Rattle.sheet.proofs.Found.{expected, variable-told}
 use Rattle.sheet.proofs.Each.{Each}
 use Rattle.sheet.proofs.ExpressionAgain.{joined-back}
 

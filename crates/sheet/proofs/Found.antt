@@ -2,38 +2,23 @@
 -- refuse it passed; and what the tests of orders and words say.
 use Prim.Native.Nat.{ℕ, _+_, _≤_}
 use mathlib.Core.Path.{_≡_, refl, sym, ap, ap₂, _∙_}
-use mathlib.Core.Bool.{Bool, true, false}
+use mathlib.Core.Bool.{true, false}
 use mathlib.Core.List.{List, [], _∷_}
 use native.Mathlib.Omega.{arith}
 use borrow.Author.Tests.{lt-ltb, le-ltb, eq-eqb, ltb-true, ltb-false, eqb-true}
 use lib.Dec.{ltb, eqb}
 use Rattle.base.specs.Choice.{pick}
-use Rattle.base.proofs.Cases.{chosen-first, chosen-second}
+use Rattle.base.specs.Front.{found}
+use Rattle.base.proofs.Cases.{chosen-second}
+use Rattle.base.proofs.Fronts.{never, let-through}
 use Rattle.order.specs.declared.Order.{Order}
 use Rattle.order.specs.declared.Order.the-variants.{Stop}
 use Rattle.order.specs.Order.{number, operand, shapes, orderOf}
 use Rattle.order.proofs.Numbers.{order-again}
 use Rattle.sheet.specs.Within.{IsVariable}
-use Rattle.sheet.specs.ReadBack.{Back, found, missing, onBack, expecting, nothingLeft, isVariable}
+use Rattle.sheet.specs.ReadBack.{Back, expecting, nothingLeft, isVariable}
 
 module _ {A : Type 0} {a : A} {l : List Order} where
-  pub never : {P : Type 0} → missing ≡ found a l → P
-  never e = let z : _≡_ {A = ℕ} 0 1 = cc in absurd (omega arith)
-
-  -- a test that refuses where it fails
-  pub let-through : (t : Bool) (b : Back A) → pick t b missing ≡ found a l → (t ≡ true) × (b ≡ found a l)
-  let-through t b e = chosen-first t b missing (found a l) never e
-
-  -- a reading of two parts
-  pub both-found :
-      {B P : Type 0} (b : Back B) (g : B → List Order → Back A)
-      → onBack b g ≡ found a l
-      → ((x : B) (l₁ : List Order) → b ≡ found x l₁ → g x l₁ ≡ found a l → P)
-      → P
-  unfolding onBack
-  both-found (found x l₁) g e k = k x l₁ refl e
-  both-found missing g e k = never e
-
   -- an order that has to be next
   pub expected :
       {P : Type 0} (q : Order) (l₀ : List Order) (g : List Order → Back A)

@@ -8,6 +8,7 @@ use native.Mathlib.Omega.{arith}
 use borrow.Author.Tests.{lt-leb, eq-eqb, ne-eqb}
 use lib.ListN.{length, length-append, length-reverseAux}
 use Rattle.base.specs.Choice.{pick}
+use Rattle.base.specs.Front.{found, onFront}
 use Rattle.word.specs.declared.Relation.{Relation}
 use Rattle.word.specs.declared.Relation.the-variants.{Equal, Unequal, Less, AtMost, Greater, AtLeast}
 use Rattle.order.specs.declared.Order.{Order}
@@ -16,7 +17,7 @@ use Rattle.sheet.specs.Sheet.{Expression, Simple, set, send, goto, Instr
 use Rattle.sheet.specs.Translation.{code, simpleCode, opposite, comparisonCode, comparisonTemporaries}
 use Rattle.sheet.specs.Translation.{instructionCode, instructionsCode}
 use Rattle.sheet.specs.Within.{Expressed, SimpleFormed, InstructionFormed, AllFormed}
-use Rattle.sheet.specs.ReadBack.{Back, found, onBack, nothingLeft, operands, inExpression, cut, cutFrom, wholly}
+use Rattle.sheet.specs.ReadBack.{Back, nothingLeft, operands, inExpression, cut, cutFrom, wholly}
 use Rattle.sheet.specs.ReadBack.{simpleEnd, simpleCut, simpleAt, elseAt, choiceAt, asSimple, instructionEnd}
 use Rattle.sheet.specs.ReadBack.{instructionCut}
 use Rattle.sheet.specs.ReadBack.{instructionAt, isEnd, instructionsAt, retarget, retargetOne, retargetAll}
@@ -37,7 +38,7 @@ cut-at v t os o l h ends = cut-behind v t os [] (o ∷ l) h ∙ rw ends refl
 
 wholly-again : {A : Type 0} (v : ℕ) (e : Expression) (f : Expression → Back A) → Expressed v e
     → wholly v (reverseAux (code v 0 e) []) f ≡ f e
-unfolding onBack nothingLeft
+unfolding onFront nothingLeft
 wholly-again v e f x =
     rw (expression-again (length (reverseAux (code v 0 e) [])) v 0 e x (omega (arith, length-reverseAux (code v 0 e) [])) [])
 
@@ -96,7 +97,7 @@ branch-again :
     → Expressed v a
     → Expressed v b
     → instructionAt v n (comparisonCode v a b ++ Branch q to ∷ l) ≡ choiceAt v n q to (operands a b) l
-unfolding onBack nothingLeft
+unfolding onFront nothingLeft
 branch-again v n q to a b l x y =
     ap (instructionCut v n)
     (cut-at v (comparisonTemporaries a b) (comparisonCode v a b) (Branch q to) l (comparison-orders v a b x y) refl)
@@ -108,7 +109,7 @@ module _ (v n to : ℕ) (r : Relation) (a b : Expression) (x : Expressed v a) (y
       simpleAt v (us ++ rest) ≡ found u rest
       → to + length rest ≡ n
       → instructionAt v n (comparisonCode v a b ++ Branch (opposite r) to ∷ us ++ rest) ≡ found (when r a b u) rest
-  unfolding onBack pick
+  unfolding onFront pick
   when-again reads here =
       ap (instructionAt v n) (append-assoc (comparisonCode v a b) (Branch (opposite r) to ∷ us) rest)
       ∙ branch-again v n (opposite r) to a b (us ++ rest) x y
@@ -122,7 +123,7 @@ module _ (v n to : ℕ) (r : Relation) (a b : Expression) (x : Expressed v a) (y
         → past + length rest ≡ n
         → instructionAt v n (comparisonCode v a b ++ Branch (opposite r) to ∷ (us ++ Jump past ∷ []) ++ ws ++ rest)
         ≡ found (either r a b u w) rest
-    unfolding onBack pick elseAt
+    unfolding onFront pick elseAt
     either-again reads reads-else here there =
         ap (instructionAt v n) (simp append-assoc)
         ∙ branch-again v n (opposite r) to a b (us ++ Jump past ∷ (ws ++ rest)) x y
@@ -140,7 +141,7 @@ pub instruction-again :
     → InstructionFormed v m i
     → p + length (instructionCode v to p i ++ rest) ≡ n
     → instructionAt v n (instructionCode v to p i ++ rest) ≡ found (retargetOne to i) rest
-unfolding onBack pick elseAt
+unfolding onFront pick elseAt
 instruction-again v n m to p (simple u) rest x here =
     let ends = ends-in v m to u rest x in
     ap (instructionCut v n) (ends .parted) ∙ ends .alone n ∙ ap asSimple (ends .reads)
@@ -181,7 +182,7 @@ pub instructions-again :
     → p + length (instructionsCode v to p is ++ Stop ∷ []) ≡ n
     → length (instructionsCode v to p is ++ Stop ∷ []) ≤ most
     → instructionsAt most v n (instructionsCode v to p is ++ Stop ∷ []) ≡ found (retargetAll to is) (Stop ∷ [])
-unfolding instructionsAt instructionsCode AllFormed retargetAll isEnd pick onBack
+unfolding instructionsAt instructionsCode AllFormed retargetAll isEnd pick onFront
 instructions-again zero v n m to p is x here most = let k = simp length-append at most in absurd (omega arith)
 instructions-again (suc most) v n m to p [] x here enough = refl
 instructions-again (suc most) v n m to p (i ∷ is) x here enough =

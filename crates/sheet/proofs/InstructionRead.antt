@@ -8,7 +8,9 @@ use native.Mathlib.Omega.{arith}
 use borrow.Author.Tests.{eqb-true}
 use lib.ListN.{length, length-append}
 use Rattle.base.specs.Choice.{pick}
+use Rattle.base.specs.Front.{found, missing}
 use Rattle.base.proofs.Cases.{by-test}
+use Rattle.base.proofs.Fronts.{never, let-through, both-found}
 use Rattle.word.specs.declared.Relation.{Relation}
 use Rattle.order.specs.declared.Order.{Order}
 use Rattle.order.specs.declared.Order.the-variants.{Word, Number, Store, Neg, Not, Jump, Branch, Send, Stop}
@@ -16,12 +18,12 @@ use Rattle.order.specs.Order.{number}
 use Rattle.sheet.specs.Sheet.{Expression, Simple, set, send, goto, Instruction, simple, when, either}
 use Rattle.sheet.specs.Translation.{code, simpleCode, opposite, comparisonCode, instructionCode, instructionsCode}
 use Rattle.sheet.specs.Within.{IsVariable, Expressed}
-use Rattle.sheet.specs.ReadBack.{Back, found, missing, onBack, operands, isVariable, inExpression, Cut, cut, cutFrom}
+use Rattle.sheet.specs.ReadBack.{Back, onBack, operands, isVariable, inExpression, Cut, cut, cutFrom}
 use Rattle.sheet.specs.ReadBack.{expressionBack, comparisonBack, wholly, simpleEnd, simpleCut, simpleAt, isHere}
 use Rattle.sheet.specs.ReadBack.{jumpsTo, elseAt}
 use Rattle.sheet.specs.ReadBack.{choiceAt, asSimple, instructionEnd, instructionCut, instructionAt, isEnd}
 use Rattle.sheet.specs.ReadBack.{instructionsAt}
-use Rattle.sheet.proofs.Found.{never, let-through, both-found, all-read, variable-told, stop-told}
+use Rattle.sheet.proofs.Found.{all-read, variable-told, stop-told}
 use Rattle.sheet.proofs.Each.{Each}
 use Rattle.sheet.proofs.ExpressionRead.{Small, expression-read, comparison-read}
 use Rattle.sheet.proofs.InstructionAgain.{opposite-twice}

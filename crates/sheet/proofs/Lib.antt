@@ -9,13 +9,11 @@ pub mod Found
 pub mod GoodObject
 pub mod InstructionAgain
 pub mod InstructionRead
-pub mod Numbering
 pub mod Objects
 pub mod Reach
 pub mod ReadBack
 pub mod Retargeted
 pub mod Simulation
-pub mod Stored
 pub mod Targets
 pub mod Values
 pub mod Worked

@@ -3,7 +3,6 @@ use Prim.Native.Nat.{ℕ}
 use mathlib.Core.Path.{_≡_, refl, sym, ap, _∙_}
 use mathlib.Core.List.{List}
 use native.Mathlib.Omega.{arith}
-use Rattle.order.specs.declared.Order.{Order}
 use Rattle.order.specs.Object.{Reading, object, refused, reading}
 use Rattle.order.proofs.RoundTrip.{read-text, text-read, read-good}
 use Rattle.sheet.specs.Sheet.{Sheet, variables}
@@ -11,7 +10,7 @@ use Rattle.sheet.specs.Translation.{translation, sheetTemporaries, objec
 use Rattle.sheet.specs.Within.{Within}
 use Rattle.sheet.specs.ReadBack.{Given, given, none, untranslate}
 use Rattle.sheet.proofs.GoodObject.{translation-good}
-use Rattle.sheet.proofs.ReadBack.{read-back, given-translates, translation-injective}
+use Rattle.sheet.proofs.ReadBack.{read-back, given-translates}
 
 pub object-read : (s : Sheet) → Within s → reading (objectText s) ≡ object (variables s) (sheetTemporaries s) (translation s)
 object-read s w = read-text (variables s) (sheetTemporaries s) (translation s) (translation-good s w)

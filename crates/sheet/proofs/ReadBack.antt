@@ -9,6 +9,7 @@ use borrow.Author.Tests.{eq-eqb, eqb-true}
 use lib.Dec.{eqb}
 use lib.ListN.{length}
 use Rattle.base.specs.Choice.{pick}
+use Rattle.base.specs.Front.{found, missing}
 use Rattle.base.proofs.Cases.{chosen-first}
 use Rattle.order.specs.declared.Order.{Order}
 use Rattle.order.specs.declared.Order.the-variants.{Stop}
@@ -17,7 +18,7 @@ use Rattle.order.specs.Order.{operand}
 use Rattle.sheet.specs.Sheet.{Instruction, Sheet, sheet, variables}
 use Rattle.sheet.specs.Translation.{firstOrder, temporariesOfAll, sheetTemporaries, translation}
 use Rattle.sheet.specs.Within.{Leads, Within}
-use Rattle.sheet.specs.ReadBack.{Back, found, missing, instructionsAt, numberOf, retargetAll, leadsAll, given, none}
+use Rattle.sheet.specs.ReadBack.{Back, instructionsAt, numberOf, retargetAll, leadsAll, given, none}
 use Rattle.sheet.specs.ReadBack.{numbered, renumbered, untranslate}
 use Rattle.sheet.proofs.Each.{each-of}
 use Rattle.sheet.proofs.ExpressionRead.{Small}

@@ -3,6 +3,7 @@
 use mathlib.Core.Path.{_≡_, refl}
 use mathlib.Core.List.{[], _∷_}
 use lib.ListN.{replicate}
+use Rattle.base.specs.Front.{onFront}
 use Rattle.base.specs.Choice.{pick}
 use Rattle.base.specs.Text.{bytes}
 use Rattle.word.specs.declared.Relation.the-variants.{Greater}
@@ -17,7 +18,7 @@ use Rattle.sheet.specs.Translation.{translation, sheetTemporaries, code,
 use Rattle.sheet.specs.Fields.{sheetText, expressionFields, lineRest, line, lines}
 use Rattle.sheet.specs.Meaning.{after, further, instructionAt, worth, sending}
 use Rattle.sheet.specs.Following.{startRun}
-use Rattle.sheet.specs.ReadBack.{untranslate, given, instructionsAt, isEnd, onBack, cutFrom, expressionBack, nothingLeft, expecting, comparisonBack, elseAt}
+use Rattle.sheet.specs.ReadBack.{untranslate, given, instructionsAt, isEnd, cutFrom, expressionBack, nothingLeft, expecting, comparisonBack, elseAt}
 use Rattle.sheet.specs.ReadBack.{leadsAll, retargetAll, numberFrom}
 
 unfoldable pub workedSheet : Sheet
@@ -59,5 +60,5 @@ unfolding run pick workedSheet instructionsCode code quotient signed comparison 
 worked-run = refl
 
 pub worked-back : untranslate 2 2 (translation workedSheet) ≡ given workedSheet
-unfolding instructionsAt workedSheet instructionsCode code pick isEnd onBack cutFrom expressionBack nothingLeft expecting comparisonBack elseAt leadsAll retargetAll numberFrom ordersOfAll temporaries temporariesOfAll
+unfolding instructionsAt workedSheet instructionsCode code pick isEnd onFront cutFrom expressionBack nothingLeft expecting comparisonBack elseAt leadsAll retargetAll numberFrom ordersOfAll temporaries temporariesOfAll
 worked-back = refl

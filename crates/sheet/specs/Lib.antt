@@ -2,7 +2,6 @@ pub mod Sheet
 pub mod Translation
 pub mod Within
 pub mod Fields
-pub mod Memory
 pub mod Meaning
 pub mod Following
 pub mod ReadBack

@@ -7,6 +7,7 @@ use mathlib.Core.List.{List, [], _∷_}
 use lib.Dec.{ltb, leb, eqb}
 use lib.ListN.{length}
 use Rattle.base.specs.Choice.{pick}
+use Rattle.base.specs.Front.{FrontOf, found, missing, onFront}
 use Rattle.word.specs.declared.Relation.{Relation}
 use Rattle.order.specs.declared.Operation.{Operation}
 use Rattle.order.specs.declared.Operation.the-variants.{Load, Add, Sub, Mlt, Div, Exp, Shl, Shr, And, Or, Xor, Cmp}
@@ -20,13 +21,11 @@ use Rattle.sheet.specs.Sheet.{Sheet, sheet, Operand, inWord, itself, wor
 use Rattle.sheet.specs.Translation.{temporary, opposite, orders, temporariesOfAll}
 
 -- what was read, and the orders that are left; or nothing of the form
-pub data Back (A : Type 0) : Type 0 where
-  found : A → List Order → Back A
-  missing : Back A
+abbrev pub Back : Type 0 → Type 0
+Back A = FrontOf Order A
 
-unfoldable pub onBack : {A B : Type 0} → Back A → (A → List Order → Back B) → Back B
-onBack (found a rest) f = f a rest
-onBack missing f = missing
+abbrev pub onBack : {A B : Type 0} → Back A → (A → List Order → Back B) → Back B
+onBack b f = onFront b f missing
 
 -- the order q is next
 unfoldable pub expecting : {A : Type 0} → Order → List Order → (List Order → Back A) → Back A

@@ -1,10 +1,6 @@
-// Sheets in memory, document 01 ("Sheet text"): a sheet is the list of its fields, in the order of its text.
-pub mod number;
-
+// Sheets, document 01 ("Sheet text"): what they are, translate to and mean (specs/), and that these agree (proofs/). A sheet's
+// text is a list of fields.
 use word::Relation;
-
-// `mostFields` of specs/Memory.antt.
-pub const MOST_FIELDS: usize = 2048;
 
 // The operators that stand between two operands, in the source + - * / ** << >> & ! !!
 pub enum Operator {

@@ -5,8 +5,8 @@ use mathlib.Core.List.{List, _∷_}
 use Rattle.text.specs.Buffer.{Reply, reply}
 use Rattle.sheet.specs.Sheet.{Instruction}
 use Rattle.sheet.specs.Fields.{fieldsOfAll}
-use Rattle.sheet.specs.Memory.{fieldsFrom}
-use Rattle.sheet.specs.Memory.{mostFields}
+use Rattle.sheet_field.specs.Memory.{fieldsFrom}
+use Rattle.sheet_field.specs.Memory.{mostFields}
 use Rattle.translate.specs.Answers.{Answer, whole, over}
 use Rattle.untranslate.specs.declared.Untranslated.{Untranslated}
 use Rattle.untranslate.specs.declared.Untranslated.the-variants.{Sheet, Missing}

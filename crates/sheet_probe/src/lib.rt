@@ -11,8 +11,8 @@ ghost use Rattle.order.specs.Limits.{mostVariables, mostOrders};
 ghost use Rattle.order.specs.Order.{number, operand, ordersFrom};
 ghost use Rattle.sheet.specs.Translation.{orders, instructionTemporaries};
 ghost use Rattle.sheet.specs.Fields.{instructionFields};
-ghost use Rattle.sheet.specs.Memory.{mostFields};
 ghost use Rattle.sheet.specs.ReadBack.{untranslate};
+ghost use Rattle.sheet_field.specs.Memory.{mostFields};
 ghost use Rattle.translate.specs.Answers.{OfSheet, answerFor, filledFor};
 ghost use Rattle.untranslate.specs.Answers.{offered};
 ghost use Rattle.sheet_text.specs.Answers.{ForText, replyFor};
@@ -43,7 +43,7 @@ pub extern "C" fn sheet_probe_translate(
 pub extern "C" fn sheet_probe_orders(kinds: &[u8], values: &[u32], n: usize, at: usize) -> u32
     ensures { λ r. ⌜ OfInstruction (now (kinds .entry)) (now (values .entry)) n at (λ i. r ≡ orders 0 i) ⌝ }
 {
-    let size = translate::size::size_of(kinds, values, n, at);
+    let size = translate_size::size_of(kinds, values, n, at);
     size.orders
 }
 
@@ -52,7 +52,7 @@ pub extern "C" fn sheet_probe_orders(kinds: &[u8], values: &[u32], n: usize, at:
 pub extern "C" fn sheet_probe_temporaries(kinds: &[u8], values: &[u32], n: usize, at: usize) -> u32
     ensures { λ r. ⌜ OfInstruction (now (kinds .entry)) (now (values .entry)) n at (λ i. r ≡ instructionTemporaries i) ⌝ }
 {
-    let size = translate::size::size_of(kinds, values, n, at);
+    let size = translate_size::size_of(kinds, values, n, at);
     size.temporaries
 }
 
@@ -61,7 +61,7 @@ pub extern "C" fn sheet_probe_temporaries(kinds: &[u8], values: &[u32], n: usize
 pub extern "C" fn sheet_probe_behind(kinds: &[u8], values: &[u32], n: usize, at: usize) -> usize
     ensures { λ r. ⌜ OfInstruction (now (kinds .entry)) (now (values .entry)) n at (λ i. r ≡ at + length (instructionFields i)) ⌝ }
 {
-    let size = translate::size::size_of(kinds, values, n, at);
+    let size = translate_size::size_of(kinds, values, n, at);
     size.at
 }
 

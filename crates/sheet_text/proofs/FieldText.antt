@@ -9,17 +9,18 @@ use lib.Dec.{ltb}
 use lib.ListN.{getD}
 use Rattle.base.specs.Choice.{pick}
 use Rattle.base.specs.Text.{bytes}
+use Rattle.base.specs.Front.{found, missing, onFront}
 use Rattle.base.proofs.Cases.{by-less}
 use Rattle.word.specs.declared.Relation.{Relation}
 use Rattle.word.specs.declared.Relation.the-variants.{Equal, Unequal, Less, AtMost, Greater, AtLeast}
-use Rattle.text.specs.Pieces.{digitsOf, decimal, Front, found, missing, onFront, fixed, numeral}
+use Rattle.text.specs.Pieces.{digitsOf, decimal, Front, fixed, numeral}
 use Rattle.text.proofs.Decimal.{numeral-decimal}
 use Rattle.sheet.specs.declared.Operator.{Operator}
 use Rattle.sheet.specs.declared.Operator.the-variants.{Plus, Minus, Times, Over, Power, Left, Right, And, Or, Unlike}
 use Rattle.sheet.specs.declared.Field.{Field}
 use Rattle.sheet.specs.declared.Field.the-variants.{Else, Then, Send, Neg, Not, Binary, If, Word, Constant, Set, Goto}
 use Rattle.sheet.specs.Fields.{fieldText}
-use Rattle.sheet.specs.Memory.{carried}
+use Rattle.sheet_field.specs.Memory.{carried}
 
 -- ---- a number, and the byte that closes it left where it is
 

@@ -7,9 +7,10 @@ use native.Mathlib.Omega.{arith}
 use lib.ListN.{drop}
 use Rattle.base.specs.Choice.{pick}
 use Rattle.base.specs.Text.{bytes}
+use Rattle.base.specs.Front.{found, missing}
 use Rattle.base.proofs.Cases.{by-test}
-use Rattle.text.specs.Pieces.{decimal, found, missing, numeral}
-use Rattle.text.proofs.Fronts.{never}
+use Rattle.base.proofs.Fronts.{never}
+use Rattle.text.specs.Pieces.{decimal, numeral}
 use Rattle.text.proofs.Decimal.{numeral-decimal}
 use Rattle.sheet.specs.declared.Field.{Field}
 use Rattle.sheet.specs.Fields.{fieldText}

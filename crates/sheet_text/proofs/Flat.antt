@@ -13,7 +13,7 @@ use Rattle.sheet.specs.Sheet.{Expression, word, constant, negated, inverted, bi
 use Rattle.sheet.specs.Sheet.{Instruction, simple, when, either, Sheet, sheet, variables, instructions}
 use Rattle.sheet.specs.Fields.{expressionFields, simpleFields, instructionFields, fieldsOfAll, sheetFields}
 use Rattle.sheet.specs.Fields.{fieldText, lineRest, line, lines, sheetText}
-use Rattle.sheet.specs.Memory.{fieldsFrom}
+use Rattle.sheet_field.specs.Memory.{fieldsFrom}
 use Rattle.sheet_text.specs.Answers.{InMemory}
 use Rattle.sheet_text.specs.Internal.{begins, opens, fieldsText, headerText, flatText}
 

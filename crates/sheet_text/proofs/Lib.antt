@@ -1,3 +1,4 @@
+pub mod Fronts
 pub mod Flat
 pub mod Writing
 pub mod FieldText

@@ -10,11 +10,11 @@ use Rattle.sheet.specs.declared.Field.the-variants.{Else, Then}
 use Rattle.sheet.specs.Sheet.{Expression, word, constant, negated, inverted, binary, Simple, set, send, goto}
 use Rattle.sheet.specs.Sheet.{Instruction, simple, when, either, Sheet, sheet}
 use Rattle.sheet.specs.Fields.{expressionFields, simpleFields, instructionFields, fieldsOfAll, sheetFields}
-use Rattle.sheet.specs.Memory.{carried}
 use Rattle.sheet.specs.Translation.{instructionCode, instructionsCode, firstOrder}
 use Rattle.sheet.specs.Within.{Expressed, SimpleFormed, InstructionFormed, AllFormed, Within}
 use Rattle.sheet.proofs.Each.{Each, each-append}
 use Rattle.sheet.proofs.InstructionAgain.{instruction-some}
+use Rattle.sheet_field.specs.Memory.{carried}
 
 abbrev pub Small : Field → Type 0
 Small f = carried f ≤ 2147483647

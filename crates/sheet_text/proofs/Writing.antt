@@ -4,7 +4,6 @@ use mathlib.Core.Path.{_≡_, refl, sym}
 use mathlib.Core.Bool.{Bool, false}
 use mathlib.Core.List.{List, [], _∷_, _++_}
 use native.Mathlib.Omega.{arith}
-use native.Mathlib.Numerals.{add-one}
 use lib.ListN.{length, getD, length-append}
 use Rattle.base.specs.Text.{bytes}
 use Rattle.text.specs.Pieces.{decimal}
@@ -12,7 +11,8 @@ use Rattle.text.specs.Internal.{Placed, putByte, putAll}
 use Rattle.text.proofs.Writing.{putAll-append}
 use Rattle.sheet.specs.declared.Field.{Field}
 use Rattle.sheet.specs.Fields.{fieldText}
-use Rattle.sheet.specs.Memory.{fieldOf, fieldsFrom}
+use Rattle.sheet_field.specs.Memory.{fieldOf, fieldsFrom}
+use Rattle.sheet_field.proofs.Stored.{fields-more, fields-over}
 use Rattle.sheet_text.specs.Internal.{opens, separator, fieldsText, headerText, flatText}
 
 -- the header
@@ -41,14 +41,10 @@ module _ (ks vs : List ℕ) where
   left n i = fieldsFrom i (n - i) ks vs
 
   left-more : (n i : ℕ) → i < n → left n i ≡ fieldOf (getD ks i 0) (getD vs i 0) ∷ left n (i + 1)
-  unfolding fieldsFrom
-  left-more n i h =
-      let more : n - i ≡ suc (n - (i + 1)) = omega arith in
-      rw (more, add-one i) refl
+  left-more n i h = fields-more ks vs i n h
 
   left-none : (n i : ℕ) → n ≤ i → left n i ≡ []
-  unfolding fieldsFrom
-  left-none n i h = let none : n - i ≡ 0 = omega arith in rw none refl
+  left-none n i h = fields-over ks vs i n h
 
   -- all of them are left at first
   left-all : (n : ℕ) → left n 0 ≡ fieldsFrom 0 n ks vs

@@ -6,7 +6,7 @@ use lib.ListN.{length}
 use Rattle.text.specs.Buffer.{Reply, reply, replyOr}
 use Rattle.sheet.specs.Sheet.{Sheet, variables, instructions}
 use Rattle.sheet.specs.Fields.{sheetFields, sheetText}
-use Rattle.sheet.specs.Memory.{fieldsFrom}
+use Rattle.sheet_field.specs.Memory.{fieldsFrom}
 use Rattle.sheet_text.specs.declared.Written.{Written}
 use Rattle.sheet_text.specs.declared.Written.the-variants.{Whole, Short}
 

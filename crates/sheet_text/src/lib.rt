@@ -1,23 +1,23 @@
 // The text of a sheet, written into a lent buffer. A sheet in memory is the list of its fields, in the order of its text.
+use base::part;
 use sheet::Field;
-use sheet::Operator;
-use sheet::number::field_at;
+use sheet_field::field_at;
+use sheet_field::kind_of;
+use sheet_field::value_of;
 use text::write::decimal_length;
 use text::write::put_byte;
 use text::write::put_decimal;
 use text::write::put_fixed;
-use word::Relation;
 ghost use mathlib.Core.Path.{_≡_};
 ghost use mathlib.Core.Bool.{false};
 ghost use mathlib.Core.List.{_++_};
-ghost use Prim.Native.Nat.{_+_, _≤_};
+ghost use Prim.Native.Nat.{_≤_};
 ghost use lib.ListN.{length};
-ghost use Rattle.base.specs.Text.{bytes};
 ghost use Rattle.text.specs.Pieces.{decimal};
 ghost use Rattle.text.specs.Buffer.{filledWith};
 ghost use Rattle.text.specs.Internal.{placed, putAll};
-ghost use Rattle.sheet.specs.Fields.{operatorText, relationText, fieldText};
-ghost use Rattle.sheet.specs.Memory.{fieldsFrom};
+ghost use Rattle.sheet.specs.Fields.{fieldText};
+ghost use Rattle.sheet_field.specs.Memory.{fieldsFrom};
 ghost use Rattle.sheet_text.specs.Answers.{ForText, written, replyFor};
 ghost use Rattle.sheet_text.specs.Internal.{begins, opens, separator, headerText, fieldsText, flatText};
 
@@ -27,37 +27,40 @@ pub enum Written {
     Short,
 }
 
-// An operator.
-fn put_operator(buffer: &mut [u8], at: usize, o: Operator) -> usize
-    ensures { λ r. ⌜ placed r (now (buffer .exit)) ≡ putAll (bytes (operatorText o)) (placed at (now (buffer .entry))) ⌝ }
-{
-    match o {
-        Operator::Plus => put_fixed(buffer, at, b"+"),
-        Operator::Minus => put_fixed(buffer, at, b"-"),
-        Operator::Times => put_fixed(buffer, at, b"*"),
-        Operator::Over => put_fixed(buffer, at, b"/"),
-        Operator::Power => put_fixed(buffer, at, b"**"),
-        Operator::Left => put_fixed(buffer, at, b"<<"),
-        Operator::Right => put_fixed(buffer, at, b">>"),
-        Operator::And => put_fixed(buffer, at, b"&"),
-        Operator::Or => put_fixed(buffer, at, b"!"),
-        Operator::Unlike => put_fixed(buffer, at, b"!!"),
-    }
-}
+// What the text of a field begins with, by the fields' numbers in memory: five bytes each, a shorter one with spaces behind it.
+// From 21 on the number that the field carries stands behind it.
+const FRONTS: [u8; 125] = *b"ELSE THEN SEND NEG  NOT  \
+    +    -    *    /    **   <<   >>   &    !    !!   \
+    IF\t= IF\t# IF\t< IF\t<=IF\t> IF\t>=W    K    SET\t GOTO\t";
 
-// IF and its relation.
-fn put_if(buffer: &mut [u8], at: usize, s: Relation) -> usize
-    ensures { λ r. ⌜ placed r (now (buffer .exit)) ≡ putAll (bytes "IF\t" ++ bytes (relationText s)) (placed at (now (buffer .entry))) ⌝ }
-{
-    match s {
-        Relation::Equal => put_fixed(buffer, at, b"IF\t="),
-        Relation::Unequal => put_fixed(buffer, at, b"IF\t#"),
-        Relation::Less => put_fixed(buffer, at, b"IF\t<"),
-        Relation::AtMost => put_fixed(buffer, at, b"IF\t<="),
-        Relation::Greater => put_fixed(buffer, at, b"IF\t>"),
-        Relation::AtLeast => put_fixed(buffer, at, b"IF\t>="),
-    }
-}
+// Their lengths.
+const FRONT_LENGTHS: [usize; 25] = [
+    4,
+    4,
+    4,
+    3,
+    3,
+    1,
+    1,
+    1,
+    1,
+    2,
+    2,
+    2,
+    1,
+    1,
+    2,
+    4,
+    4,
+    4,
+    5,
+    4,
+    5,
+    1,
+    1,
+    4,
+    5,
+];
 
 // A fixed string and the number behind it.
 fn put_numbered(buffer: &mut [u8], at: usize, string: &[u8], n: u32) -> usize
@@ -71,19 +74,12 @@ fn put_numbered(buffer: &mut [u8], at: usize, string: &[u8], n: u32) -> usize
 fn put_field(buffer: &mut [u8], at: usize, f: Field) -> usize
     ensures { λ r. ⌜ placed r (now (buffer .exit)) ≡ putAll (fieldText f) (placed at (now (buffer .entry))) ⌝ }
 {
-    match f {
-        Field::Else => put_fixed(buffer, at, b"ELSE"),
-        Field::Then => put_fixed(buffer, at, b"THEN"),
-        Field::Send => put_fixed(buffer, at, b"SEND"),
-        Field::Neg => put_fixed(buffer, at, b"NEG"),
-        Field::Not => put_fixed(buffer, at, b"NOT"),
-        Field::Binary(o) => put_operator(buffer, at, o),
-        Field::If(s) => put_if(buffer, at, s),
-        Field::Word(w) => put_numbered(buffer, at, b"W", w),
-        Field::Constant(n) => put_numbered(buffer, at, b"K", n),
-        Field::Set(w) => put_numbered(buffer, at, b"SET\t", w),
-        Field::Goto(s) => put_numbered(buffer, at, b"GOTO\t", s),
+    let k = kind_of(f) as usize;
+    let i = put_fixed(buffer, at, part(&FRONTS, 5 * k, FRONT_LENGTHS[k]));
+    if k < 21 {
+        return i;
     }
+    put_decimal(buffer, i, value_of(f))
 }
 
 // Whether a field begins an instruction: SET, SEND, GOTO or IF.
@@ -163,56 +159,17 @@ fn put_fields(buffer: &mut [u8], at: usize, kinds: &[u8], values: &[u32], n: u32
     put_byte(buffer, j, 10)
 }
 
-// The lengths of these texts, each with a bound by which no sum of them overflows.
-fn operator_length(o: Operator) -> usize
-    ensures exact { λ r. ⌜ r ≡ length (bytes (operatorText o)) ⌝ }
-    ensures few { λ r. ⌜ r ≤ 2 ⌝ }
-{
-    match o {
-        Operator::Plus => 1,
-        Operator::Minus => 1,
-        Operator::Times => 1,
-        Operator::Over => 1,
-        Operator::Power => 2,
-        Operator::Left => 2,
-        Operator::Right => 2,
-        Operator::And => 1,
-        Operator::Or => 1,
-        Operator::Unlike => 2,
-    }
-}
-
-fn relation_length(s: Relation) -> usize
-    ensures exact { λ r. ⌜ r ≡ length (bytes (relationText s)) ⌝ }
-    ensures few { λ r. ⌜ r ≤ 2 ⌝ }
-{
-    match s {
-        Relation::Equal => 1,
-        Relation::Unequal => 1,
-        Relation::Less => 1,
-        Relation::AtMost => 2,
-        Relation::Greater => 1,
-        Relation::AtLeast => 2,
-    }
-}
-
+// The length of a field's text, with a bound by which no sum of lengths overflows.
 fn field_length(f: Field) -> usize
     ensures exact { λ r. ⌜ r ≡ length (fieldText f) ⌝ }
     ensures few { λ r. ⌜ r ≤ 15 ⌝ }
 {
-    match f {
-        Field::Else => 4,
-        Field::Then => 4,
-        Field::Send => 4,
-        Field::Neg => 3,
-        Field::Not => 3,
-        Field::Binary(o) => operator_length(o),
-        Field::If(s) => 3 + relation_length(s),
-        Field::Word(w) => 1 + decimal_length(w),
-        Field::Constant(n) => 1 + decimal_length(n),
-        Field::Set(w) => 4 + decimal_length(w),
-        Field::Goto(s) => 5 + decimal_length(s),
+    let k = kind_of(f) as usize;
+    let front = FRONT_LENGTHS[k];
+    if k < 21 {
+        return front;
     }
+    front + decimal_length(value_of(f))
 }
 
 // The length of the text of the first n fields, for any fields that two arrays hold.

@@ -1,7 +1,8 @@
 // Document 01's worked program ("One program whole") from its sheet to its object and back, then objects that differ from a
 // translation by little. The file stdout beside src/ has what document 01 says of each.
 use libc::STDOUT_FILENO;
-use order::object::Reading;
+use object_reader::Reading;
+use sheet_field::MOST_FIELDS;
 use translate::Translated;
 use untranslate::Untranslated;
 
@@ -76,7 +77,7 @@ fn worked_sheet() {
 // The text of the sheet that the two arrays hold.
 fn write_sheet(kinds: &[u8], values: &[u32], v: u32, instructions: u32) {
     let mut text = [0u8; 512];
-    if kinds.len() <= 2048 {
+    if kinds.len() <= MOST_FIELDS {
         let n = kinds.len() as u32;
         match sheet_text::write(kinds, values, n, v, instructions, &mut text) {
             sheet_text::Written::Whole(length) => show(&text, length),
@@ -97,9 +98,9 @@ fn write_object(kinds: &[u8], values: &[u32], v: u32) {
 
 fn write_orders(numbers: &[u8], operands: &[u32], v: u32, t: u32, n: u32) {
     let mut text = [0u8; 1024];
-    match object_text::write(numbers, operands, v, t, n, &mut text) {
-        object_text::Written::Whole(length) => show(&text, length),
-        object_text::Written::Short => say(b"no room\n"),
+    match object_writer::write(numbers, operands, v, t, n, &mut text) {
+        object_writer::Written::Whole(length) => show(&text, length),
+        object_writer::Written::Short => say(b"no room\n"),
     }
 }
 
@@ -107,7 +108,7 @@ fn write_orders(numbers: &[u8], operands: &[u32], v: u32, t: u32, n: u32) {
 fn read_back(object: &[u8]) {
     let mut numbers = [0u8; 1024];
     let mut operands = [0u32; 1024];
-    match order::object::read(object, &mut numbers, &mut operands) {
+    match object_reader::read(object, &mut numbers, &mut operands) {
         Reading::Good(v, t, n) => write_back(&numbers, &operands, v, t, n),
         Reading::Header => say(b"refused\n"),
         Reading::Line(_) => say(b"refused\n"),
@@ -118,11 +119,11 @@ fn read_back(object: &[u8]) {
 }
 
 fn write_back(numbers: &[u8], operands: &[u32], v: u32, t: u32, n: u32) {
-    let mut kinds = [0u8; 2048];
-    let mut values = [0u32; 2048];
+    let mut kinds = [0u8; MOST_FIELDS];
+    let mut values = [0u32; MOST_FIELDS];
     match untranslate::untranslate(numbers, operands, n, v, t, &mut kinds, &mut values) {
         Untranslated::Sheet(instructions, from) => {
-            if from <= 2048 {
+            if from <= MOST_FIELDS {
                 write_sheet(&kinds[from..], &values[from..], v, instructions);
             }
         }

@@ -14,17 +14,17 @@ use Rattle.order.specs.declared.Order.{Order}
 use Rattle.order.specs.declared.Order.the-variants.{Stop}
 use Rattle.order.specs.Order.{number, operand, orderOf, ordersOf}
 use Rattle.order.specs.Object.{Reading, object, refused, reading, linesOf}
-use Rattle.order.specs.Answers.{good, refusal, verdictOf}
 use Rattle.order.specs.Good.{Good}
 use Rattle.order.proofs.Numbers.{orders-again, ordersOf-at}
 use Rattle.order.proofs.RoundTrip.{read-good, lines-read}
+use Rattle.object_reader.specs.Answers.{good, refusal, verdictOf}
 use Rattle.machine.specs.declared.Registers.{Registers}
 use Rattle.machine.specs.Machine.{machine, ran, run}
 use Rattle.machine.proofs.Alike.{run-same}
 use Rattle.machine.proofs.Frame.{lengths-stay}
-use Rattle.skimp.specs.State.{registersOf, registerBytes, wordsAt, wordsBytes, stateBytes}
+use Rattle.skimp_state.specs.State.{registersOf, registerBytes, wordsAt, wordsBytes, stateBytes}
+use Rattle.skimp_state.proofs.Bytes.{length-words, length-registers, length-state}
 use Rattle.skimp.specs.Run.{call, reply, refusedCall, ranCall, stateFits, objectCall, runCall}
-use Rattle.skimp.proofs.Bytes.{length-words, length-registers, length-state}
 
 -- ---- the bytes of the last state
 

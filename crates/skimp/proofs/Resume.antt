@@ -22,10 +22,10 @@ use Rattle.machine.proofs.Effects.{Words}
 use Rattle.machine.proofs.Invariants.{Ending, Bytes, operands-small}
 use Rattle.machine.proofs.Resume.{resume, within-budget}
 use Rattle.machine.proofs.Frame.{lengths-stay, sent-within-room, ending-known, words-stay, next-inside}
-use Rattle.skimp.specs.State.{numberAt, registersOf, wordsAt, stateBytes}
+use Rattle.skimp_state.specs.State.{numberAt, registersOf, wordsAt, stateBytes}
+use Rattle.skimp_state.proofs.Bytes.{number-four, length-words, length-state}
+use Rattle.skimp_state.proofs.Stored.{Held, registers-again, words-again}
 use Rattle.skimp.specs.Run.{Call, call, reply, refusedCall, isEnding, ranCall, registersFit, stateFits, objectCall, readCall, runCall, replyOfBoth}
-use Rattle.skimp.proofs.Bytes.{number-four, length-words, length-state}
-use Rattle.skimp.proofs.Stored.{Held, registers-again, words-again}
 
 -- ---- the parts of a call
 

@@ -5,15 +5,16 @@ use mathlib.Core.List.{[], _∷_}
 use lib.ListN.{replicate}
 use Rattle.base.specs.Choice.{pick}
 use Rattle.base.specs.Text.{bytes}
+use Rattle.base.specs.Front.{onFront}
 use Rattle.base.proofs.Lists.{getD-repeated}
 use Rattle.word.specs.Word.{wrap, signed, word, difference, quotient, comparison}
-use Rattle.text.specs.Pieces.{onFront, fixed, digits, numeral}
+use Rattle.text.specs.Pieces.{fixed, digits, numeral}
 use Rattle.order.specs.Order.{shapes}
 use Rattle.order.specs.Object.{withinLimits, headerAt, recordAmong, recordAt, linesAt}
 use Rattle.order.specs.Object.{firstStop, firstOperand, stopLast, exactly, reading}
 use Rattle.machine.specs.Machine.{send, run}
 use Rattle.machine.proofs.Worked.{worked}
-use Rattle.skimp.specs.State.{numberAt, numberBytes, registersOf, wordsAt, registerBytes, wordsBytes, stateBytes}
+use Rattle.skimp_state.specs.State.{numberAt, numberBytes, registersOf, wordsAt, registerBytes, wordsBytes, stateBytes}
 use Rattle.skimp.specs.Run.{call, reply, isEnding, registersFit, stateFits, objectCall, runCall}
 
 number-zero : (k i n : ℕ) → numberAt k i (replicate n 0) ≡ 0

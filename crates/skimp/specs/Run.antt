@@ -10,7 +10,7 @@ use Rattle.order.specs.declared.Order.{Order}
 use Rattle.order.specs.Object.{Reading, object, refused, reading}
 use Rattle.machine.specs.declared.Registers.{Registers}
 use Rattle.machine.specs.Machine.{machine, Run, ran, run}
-use Rattle.skimp.specs.State.{registersOf, wordsAt, stateBytes}
+use Rattle.skimp_state.specs.State.{registersOf, wordsAt, stateBytes}
 
 -- a call: its reply, and the bytes of the state and of the output after it
 pub data Call : Type 0 where

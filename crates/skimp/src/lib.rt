@@ -1,8 +1,7 @@
 // The functions that the box's supervisor calls. include/skimp.h says in plain words what they do.
 mod run;
-mod state;
 
-use order::object::Reading;
+use object_reader::Reading;
 ghost use mathlib.Core.Path.{_≡_};
 ghost use Rattle.skimp.specs.Run.{call, runCall};
 
@@ -13,7 +12,7 @@ pub extern "C" fn skimp_run(object: &[u8], state: &mut [u8], output: &mut [u8], 
 {
     let mut numbers = [0u8; order::MOST_ORDERS as usize];
     let mut operands = [0u32; order::MOST_ORDERS as usize];
-    match order::object::read(object, &mut numbers, &mut operands) {
+    match object_reader::read(object, &mut numbers, &mut operands) {
         Reading::Good(v, t, n) => {
             let words = (v + t + 2) as usize;
             run::run_orders(&numbers, &operands, words, n, state, output, budget)

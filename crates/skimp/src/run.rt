@@ -1,16 +1,16 @@
 // Running the orders of an object from a state's bytes.
-use crate::state::load_words;
-use crate::state::registers;
-use crate::state::store_registers;
-use crate::state::store_words;
 use machine::Registers;
+use skimp_state::load_words;
+use skimp_state::registers;
+use skimp_state::store_registers;
+use skimp_state::store_words;
 ghost use mathlib.Core.Path.{_≡_};
 ghost use Prim.Native.Nat.{_+_, _*_, _≤_};
 ghost use lib.ListN.{length};
 ghost use Rattle.order.specs.Limits.{mostWords};
 ghost use Rattle.order.specs.Order.{ordersOf};
 ghost use Rattle.machine.specs.Machine.{machine, run as spec-run};
-ghost use Rattle.skimp.specs.State.{registersOf, wordsAt};
+ghost use Rattle.skimp_state.specs.State.{registersOf, wordsAt};
 ghost use Rattle.skimp.specs.Run.{call, reply as replyOf, ranCall, objectCall, isEnding, registersFit, stateFits};
 
 // The words of the longest frame: `mostWords` of order/specs/Limits.antt.
@@ -79,7 +79,7 @@ fn run_with(
 {
     load_words(state, words);
     let r = registers(state);
-    let done = machine::run(numbers, operands, words, output, r, budget);
+    let done = machine_run::run(numbers, operands, words, output, r, budget);
     let after = done.registers;
     store_registers(state, after);
     store_words(state, words);

@@ -4,7 +4,8 @@ use mathlib.Core.Path.{_≡_, refl}
 use mathlib.Core.List.{List, [], _∷_, map}
 use Rattle.base.specs.Text.{bytes}
 use Rattle.base.specs.Choice.{pick}
-use Rattle.text.specs.Pieces.{fixed, onFront}
+use Rattle.base.specs.Front.{onFront}
+use Rattle.text.specs.Pieces.{fixed}
 use Rattle.sheet.specs.Translation.{code, ordersOfAll, temporaries}
 use Rattle.sheet.specs.Fields.{expressionFields}
 use Rattle.sheet.specs.Sheet.{sheet, simple, send, constant}

@@ -7,8 +7,9 @@ use borrow.Author.Tests.{ltb-false}
 use lib.Dec.{ltb, eqb}
 use lib.ListN.{length}
 use Rattle.base.specs.Text.{bytes}
+use Rattle.base.specs.Front.{found, missing, onFront}
 use Rattle.base.proofs.Cases.{either-part}
-use Rattle.text.specs.Pieces.{Front, found, missing, onFront, fixed}
+use Rattle.text.specs.Pieces.{Front, fixed}
 use Rattle.sheet.proofs.Each.{Each}
 use Rattle.source.specs.declared.Token.{Token}
 use Rattle.source.specs.declared.Token.the-variants.{Name, Number, Quoted, Binary, Compare, Mark}

@@ -12,5 +12,6 @@ pub mod Printed
 pub mod Readings
 pub mod SmallCells
 pub mod Spelling
+pub mod Stored
 pub mod Turns
 pub mod WithinLimits

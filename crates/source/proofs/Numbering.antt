@@ -6,10 +6,10 @@ use native.Mathlib.Omega.{arith}
 use lib.ListN.{getD, take, drop, List·getD-eq-default, List·getD-append}
 use lib.Seq.{getD-append-add}
 use Rattle.base.proofs.Lists.{getD-map-inside}
+use Rattle.base.proofs.Lists.{last-of, among}
 use Rattle.word.specs.declared.Relation.the-variants.{Equal, Unequal, Less, AtMost, Greater, AtLeast}
 use Rattle.sheet.specs.declared.Operator.the-variants.{Plus, Minus, Times, Over, Power, Left, Right, And, Or, Unlike}
-use Rattle.sheet.specs.Memory.{operators, relations}
-use Rattle.sheet.proofs.Numbering.{last-of, among}
+use Rattle.sheet_field.specs.Memory.{operators, relations}
 use Rattle.source.specs.declared.Token.{Token}
 use Rattle.source.specs.declared.Token.the-variants.{Name, Number, Quoted, Binary, Compare, Mark}
 use Rattle.source.specs.Memory.{tokenKind, tokenCarried, numberedTokens, tokenShapes, tokenOf}

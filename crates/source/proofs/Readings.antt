@@ -7,8 +7,9 @@ use mathlib.Core.List.{List, [], _∷_, _++_, map}
 use lib.IntN.{ℤ, pos, negsuc}
 use Rattle.base.specs.Choice.{pick}
 use Rattle.base.specs.Text.{bytes}
-use Rattle.text.specs.Pieces.{onFront, fixed}
+use Rattle.base.specs.Front.{onFront}
 use Rattle.word.specs.Word.{word, wrap, signed, sum, product, negation, quotient, power, shiftRight, bitwise, xorBits, notBits}
+use Rattle.text.specs.Pieces.{fixed}
 use Rattle.sheet.specs.Fields.{expressionFields}
 use Rattle.sheet.specs.Translation.{code, ordersOfAll, temporaries}
 use Rattle.sheet.specs.Meaning.{after, further, instructionAt, worth, sending}

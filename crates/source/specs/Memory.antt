@@ -4,7 +4,7 @@ use mathlib.Core.List.{List, [], _∷_, _++_, map}
 use lib.Dec.{eqb}
 use lib.ListN.{getD, take, drop}
 use Rattle.base.specs.Choice.{pick}
-use Rattle.sheet.specs.Memory.{operatorNumber, relationNumber, operators, relations}
+use Rattle.sheet_field.specs.Memory.{operatorNumber, relationNumber, operators, relations}
 use Rattle.source.specs.declared.Statement.{Statement}
 use Rattle.source.specs.declared.Token.{Token}
 use Rattle.source.specs.declared.Token.the-variants.{Name, Number, Quoted, Binary, Compare, Mark}
@@ -56,3 +56,9 @@ unfoldable pub lexemesFrom : ℕ → ℕ → List ℕ → List ℕ → List ℕ 
 lexemesFrom k zero cells ks vs = []
 lexemesFrom k (suc n) cells ks vs =
     lexemeOf cells (getD ks k 0) (getD vs k 0) ∷ lexemesFrom (suc k) n cells ks vs
+
+-- ---- the tables of names and of labels
+
+-- their rows: one statement can pass the 64 that are allowed by 128
+abbrev pub tableRows : ℕ
+tableRows = 192

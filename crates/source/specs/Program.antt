@@ -1,6 +1,6 @@
 -- From statements to a sheet, document 01 ("Statements", "What the box replies"): the order of parts, names, labels and
 -- limits. Comments in quotes are document 01's words.
-use Prim.Native.Nat.{ℕ, suc, _+_}
+use Prim.Native.Nat.{ℕ, suc}
 use mathlib.Core.Bool.{Bool, true, false}
 use mathlib.Core.List.{List, [], _∷_, _++_, map}
 use lib.Dec.{ltb, leb, eqb}

@@ -9,8 +9,9 @@ use lib.Dec.{ltb, leb, eqb}
 use lib.ListN.{length}
 use Rattle.base.specs.Choice.{pick}
 use Rattle.base.specs.Text.{bytes}
-use Rattle.text.specs.Pieces.{Front, found, missing, onFront, fixed}
+use Rattle.base.specs.Front.{found, missing, onFront}
 use Rattle.word.specs.declared.Relation.the-variants.{Equal, Unequal, Less, AtMost, Greater, AtLeast}
+use Rattle.text.specs.Pieces.{Front, fixed}
 use Rattle.sheet.specs.declared.Operator.the-variants.{Plus, Minus, Times, Over, Power, Left, Right, And, Or, Unlike}
 use Rattle.source.specs.declared.Token.{Token}
 use Rattle.source.specs.declared.Token.the-variants.{Number, Quoted, Binary, Compare, Mark}

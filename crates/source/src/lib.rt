@@ -1,12 +1,28 @@
 // Sources, document 01 ("From bytes to statements", "Statements"): what the stages from source bytes to a sheet hand on.
+pub mod letters;
+pub mod marks;
 pub mod number;
 
 use sheet::Operator;
 use word::Relation;
 
+// The limits of specs/Limits.antt.
+pub const MOST_BYTES: usize = 16384;
+
+pub const MOST_CELLS: usize = 256;
+
+pub const GREATEST_CONSTANT: u64 = 2147483647;
+
+pub const GREATEST_LABEL: u32 = 9999;
+
+pub const MOST_LABELS: u32 = 64;
+
+// `tableRows` of specs/Memory.antt.
+pub const TABLE_ROWS: u32 = 192;
+
 // A statement: its cells and how many there are, without the end mark. "Cell" is document 01's word for a byte kept.
 pub struct Statement {
-    pub cells: [u8; 256],
+    pub cells: [u8; MOST_CELLS],
     pub length: usize,
 }
 
@@ -19,7 +35,7 @@ pub enum Mode {
 }
 
 // A token. A name carries its word: 0 where it is unknown, 1 for SEND. Keywords and signs that are neither operators nor
-// relations are marks, numbered in specs/Tokens.antt.
+// relations are marks, numbered in marks.rt.
 pub enum Token {
     Name(u32),
     Number(u32),

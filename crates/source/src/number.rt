@@ -1,10 +1,10 @@
 // The kind of a token in memory and what it carries, and back: `tokenKind`, `tokenCarried` and `tokenOf` of
 // specs/Memory.antt.
 use crate::Token;
-use sheet::number::operator;
-use sheet::number::operator_number;
-use sheet::number::relation;
-use sheet::number::relation_number;
+use sheet_field::operator;
+use sheet_field::operator_number;
+use sheet_field::relation;
+use sheet_field::relation_number;
 ghost use mathlib.Core.Path.{_≡_};
 ghost use lib.ListN.{getD};
 ghost use Rattle.source.specs.declared.Token.the-variants.{Mark};

@@ -3,17 +3,17 @@ use Prim.Native.Nat.{ℕ, _+_, _*_}
 use mathlib.Core.Path.{_≡_, refl, sym, ap}
 use mathlib.Core.List.{List}
 use native.Mathlib.Omega.{arith}
+use Rattle.text.specs.Buffer.{filledWith}
 use Rattle.sheet.specs.declared.Field.{Field}
 use Rattle.sheet.specs.Sheet.{Sheet}
 use Rattle.sheet.specs.Fields.{sheetFields}
-use Rattle.sheet.specs.Memory.{fieldsFrom}
+use Rattle.sheet_field.specs.Memory.{fieldsFrom}
 use Rattle.sheet_text.specs.Answers.{InMemory, ForText, replyFor}
-use Rattle.text.specs.Buffer.{filledWith}
-use Rattle.source_probe.specs.Reply.{replyNumber, replyTo, filledBy}
 use Rattle.source.specs.Source.{Answer, accepted, refusal}
 use Rattle.front_end.specs.declared.Answer.{Answer as Reply}
 use Rattle.front_end.specs.declared.Answer.the-variants.{Sheet as SheetIs, Refused}
 use Rattle.front_end.specs.Answers.{Told, fieldsOfSheet, refusedAt, told, answered}
+use Rattle.source_probe.specs.Reply.{replyNumber, replyTo, filledBy}
 
 abbrev number : Told → ℕ
 number (fieldsOfSheet v count fs) = 0

@@ -1,5 +1,6 @@
 // The sheet of a source for the tests in rust/ to call. Not part of the product's interface (include/skimp.h).
 use front_end::Answer;
+use sheet_field::MOST_FIELDS;
 use sheet_text::Written;
 ghost use mathlib.Core.Path.{_≡_};
 ghost use Rattle.text.specs.Buffer.{filledWith};
@@ -14,8 +15,8 @@ pub extern "C" fn source_probe_read(source: &[u8], sheet: &mut [u8]) -> u64
     ensures replied { λ r. ⌜ r ≡ replyNumber (replyTo (answer (now (source .entry))) (now (sheet .entry))) ⌝ }
     ensures filled { λ _. ⌜ now (sheet .exit) ≡ filledBy (answer (now (source .entry))) (now (sheet .entry)) ⌝ }
 {
-    let mut kinds = [0u8; 2048];
-    let mut values = [0u32; 2048];
+    let mut kinds = [0u8; MOST_FIELDS];
+    let mut values = [0u32; MOST_FIELDS];
     match front_end::read(source, &mut kinds, &mut values) {
         Answer::Refused(n, k) => n as u64 * 4294967296 + k as u64,
         Answer::Sheet(v, count, n) => write_sheet(&kinds, &values, n, v, count, sheet),

@@ -2,6 +2,7 @@
 // refusals of a source. The file stdout beside src/ has what document 01 says of each.
 use front_end::Answer;
 use libc::STDOUT_FILENO;
+use sheet_field::MOST_FIELDS;
 
 fn main() {
     worked_source();
@@ -24,8 +25,8 @@ fn show(text: &[u8], n: usize) {
 
 // A title, and behind it the number and place of a refusal, or on the next lines the sheet's text.
 fn read(title: &[u8], source: &[u8]) {
-    let mut kinds = [0u8; 2048];
-    let mut values = [0u32; 2048];
+    let mut kinds = [0u8; MOST_FIELDS];
+    let mut values = [0u32; MOST_FIELDS];
     say(title);
     match front_end::read(source, &mut kinds, &mut values) {
         Answer::Refused(n, k) => write_refusal(n, k),

@@ -7,9 +7,10 @@ use borrow.Author.Tests.{lt-ltb, le-ltb, eq-eqb, ne-eqb, ltb-false, eqb-true, eq
 use lib.Dec.{ltb, eqb}
 use lib.ListN.{length, length-append}
 use Rattle.base.specs.Choice.{pick}
+use Rattle.base.specs.Front.{found}
 use Rattle.base.proofs.Cases.{by-less, by-test}
-use Rattle.text.specs.Pieces.{found, digitsOf, decimal, digits, numeral}
-use Rattle.text.proofs.Fronts.{never, not-refused}
+use Rattle.base.proofs.Fronts.{never, not-refused}
+use Rattle.text.specs.Pieces.{digitsOf, decimal, digits, numeral}
 
 -- ---- the digits of a number
 

@@ -6,8 +6,9 @@ use borrow.Author.Tests.{eq-eqb, ne-eqb}
 use lib.Dec.{ltb, eqb}
 use lib.ListN.{length, getD, drop, drop-of-length-le}
 use Rattle.base.specs.Choice.{pick}
+use Rattle.base.specs.Front.{found, missing}
 use Rattle.base.proofs.Lists.{drop-more}
-use Rattle.text.specs.Pieces.{found, missing, fixed, digits, numeral}
+use Rattle.text.specs.Pieces.{fixed, digits, numeral}
 
 module _ (string s : List ℕ) (k i : ℕ) where
   -- the string is read to its end

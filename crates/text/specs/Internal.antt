@@ -4,11 +4,12 @@ use mathlib.Core.List.{List, [], _∷_}
 use lib.Dec.{ltb}
 use lib.ListN.{length, drop, set}
 use Rattle.base.specs.Choice.{pick}
+use Rattle.base.specs.Front.{found, missing}
 use Rattle.text.specs.declared.read.Place.{Place}
 use Rattle.text.specs.declared.read.Place.the-variants.{Behind, Missing}
 use Rattle.text.specs.declared.read.Numeral.{Numeral}
 use Rattle.text.specs.declared.read.Numeral.the-variants.{Number, Missing as NoNumber}
-use Rattle.text.specs.Pieces.{Front, found, missing}
+use Rattle.text.specs.Pieces.{Front}
 
 -- ---- reading
 

@@ -4,6 +4,7 @@ use Prim.Native.Nat.{ℕ, zero, suc, _+_, _-_, _*_, _/_, _%_}
 use mathlib.Core.List.{List, [], _∷_, _++_}
 use lib.Dec.{ltb, eqb}
 use Rattle.base.specs.Choice.{pick}
+use Rattle.base.specs.Front.{FrontOf, found, missing}
 
 -- ---- a number
 
@@ -19,14 +20,8 @@ decimal n = digitsOf 10 n
 -- ---- reading at the front of a text
 
 -- what stands at the front of a text, and the text behind it; or nothing of the form looked for
-pub data Front (A : Type 0) : Type 0 where
-  found : A → List ℕ → Front A
-  missing : Front A
-
--- what comes of each of the two
-unfoldable pub onFront : {A B : Type 0} → Front A → (A → List ℕ → B) → B → B
-onFront (found a rest) f b = f a rest
-onFront missing f b = b
+abbrev pub Front : Type 0 → Type 0
+Front A = FrontOf ℕ A
 
 -- a fixed string
 unfoldable pub fixed : List ℕ → List ℕ → Front (List ℕ)

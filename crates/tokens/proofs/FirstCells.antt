@@ -11,9 +11,11 @@ use Rattle.base.proofs.Cases.{both-yes}
 use Rattle.base.proofs.Lists.{drop-more}
 use Rattle.source.specs.Cells.{isCapital, isSmall}
 use Rattle.source.specs.Tokens.{One, isDigit, run, pastRun, decimalValue, nameAt, keywordAt, decimalAt, textAt, constantOf, signAt, lexeme}
-use Rattle.tokens.specs.declared.lexeme.One.{One as Answer}
-use Rattle.tokens.specs.declared.lexeme.One.the-variants.{Token as TokenAt, Name, Wrong}
-use Rattle.tokens.specs.Internal.{Is, RunEnds, Constant, decimalFrom}
+use Rattle.tokens_fixed.specs.declared.One.{One as Answer}
+use Rattle.tokens_fixed.specs.declared.One.the-variants.{Token as TokenAt, Name, Wrong}
+use Rattle.tokens_fixed.specs.Answers.{Is}
+use Rattle.tokens_constant.specs.Answers.{Constant, decimalFrom}
+use Rattle.tokens.specs.Internal.{RunEnds}
 use Rattle.tokens.proofs.Names.{name-is}
 
 pub digit-from : (c : ℕ) → isDigit c ≡ true → 48 ≤ c

@@ -10,8 +10,9 @@ use Rattle.base.specs.Choice.{pick}
 use Rattle.base.proofs.Lists.{drop-more, take-more}
 use Rattle.source.specs.Cells.{isCapital}
 use Rattle.source.specs.Tokens.{inName, run, pastRun, nameAt}
-use Rattle.tokens.specs.declared.lexeme.One.the-variants.{Name}
-use Rattle.tokens.specs.Internal.{RunEnds, Is}
+use Rattle.tokens_fixed.specs.declared.One.the-variants.{Name}
+use Rattle.tokens_fixed.specs.Answers.{Is}
+use Rattle.tokens.specs.Internal.{RunEnds}
 
 -- what holds before each cell: those from `at` on are in the name
 pub record Runs (cells : List ℕ) (at i : ℕ) : Type 0 where

@@ -5,8 +5,8 @@ use mathlib.Core.List.{List, [], _∷_, _++_, append-nil, append-assoc}
 use native.Mathlib.Omega.{arith}
 use native.Mathlib.Nat.{add-zero}
 use borrow.Author.Tests.{ne-eqb}
-use lib.ListN.{length, getD, take, drop, set, length-set, drop-of-length-le}
-use lib.Seq.{getD-set-same, getD-set-other, take-all, length-take-le}
+use lib.ListN.{length, getD, take, drop, set, length-set, length-take, drop-of-length-le}
+use lib.Seq.{getD-set-same, getD-set-other}
 use Rattle.base.specs.Choice.{pick}
 use Rattle.base.proofs.Lists.{drop-more}
 use Rattle.source.specs.declared.Token.{Token}
@@ -14,14 +14,15 @@ use Rattle.source.specs.declared.Statement.{Statement}
 use Rattle.source.specs.Memory.{tokenKind, tokenCarried, lexemeOf, lexemesFrom, held}
 use Rattle.source.specs.Tokens.{Lexeme, name, token, One, one, wrong, lexeme, Lexed, lexed, refused, behind, onOne, lexemesIn, lexemes}
 use Rattle.source.proofs.Numbering.{token-again}
-use Rattle.tokens.specs.declared.lexeme.One.{One as Answer}
-use Rattle.tokens.specs.declared.lexeme.One.the-variants.{Token as TokenAt, Name, Wrong}
+use Rattle.tokens_fixed.specs.declared.One.{One as Answer}
+use Rattle.tokens_fixed.specs.declared.One.the-variants.{Token as TokenAt, Name, Wrong}
+use Rattle.tokens_fixed.specs.Answers.{oneIn, Sound, Is}
 use Rattle.tokens.specs.declared.Stored.{Stored}
 use Rattle.tokens.specs.declared.Stored.the-variants.{At, Wrong as Refusal}
 use Rattle.tokens.specs.declared.Lexed.{Lexed as Answered}
 use Rattle.tokens.specs.declared.Lexed.the-variants.{Tokens, Refused}
 use Rattle.tokens.specs.Answers.{lexedIn, Room, Few}
-use Rattle.tokens.specs.Internal.{oneIn, Sound, Is, storedOf, Scanned}
+use Rattle.tokens.specs.Internal.{storedOf, Scanned}
 
 -- ---- what is stored is read back
 
@@ -181,13 +182,10 @@ module _ (cells ks vs : List ℕ) (at n : ℕ) (few : length cells < 256) (scans
           ap (allBehind (lexemesFrom 0 n cells ks vs)) (ap (lexemesIn (length cells - n)) (drop-of-length-le cells h) ∙ no-more (length cells - n))
           ∙ ap lexed (append-nil (lexemesFrom 0 n cells ks vs))
 
--- ---- the first cells of an array
+-- ---- the public contract
 
-pub scanned-all : (n : ℕ) (cells ks vs : List ℕ) (r : Answered) → length cells ≤ n → Scanned cells ks vs r → Scanned (take n cells) ks vs r
-scanned-all n cells ks vs r h s = rw (take-all n cells h) s
-
-pub front-few : (n : ℕ) (cells : List ℕ) → n < length cells → n < 256 → length (take n cells) < 256
-front-few n cells h few = rw (length-take-le n cells (omega arith)) few
+pub front-few : (n : ℕ) (cells : List ℕ) → n < 256 → length (take n cells) < 256
+front-few n cells few = let e = length-take n cells in omega (arith, e, few)
 
 -- the answer of a scan, for the public contract
 pub read-in : (s : Statement) (ks vs ks′ vs′ : List ℕ) (r : Answered) → Scanned (held s) ks′ vs′ r → length ks′ ≡ length ks → length vs′ ≡ length vs

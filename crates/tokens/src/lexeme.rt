@@ -1,41 +1,17 @@
-// One token: keywords, names, and the choice between the kinds of token.
-use crate::constant::decimal_from;
-use crate::constant::quoted_from;
-use crate::signs::sign_at;
-use source::Token;
-use text::read::Place;
-use text::read::fixed_at;
+// One token: names, and the choice between the kinds of token.
+use source::letters::is_capital;
+use source::letters::is_small;
+use tokens_constant::decimal_from;
+use tokens_constant::quoted_from;
+use tokens_fixed::One;
+use tokens_fixed::keyword_at;
+use tokens_fixed::sign_at;
 ghost use mathlib.Core.Path.{_≡_};
 ghost use Prim.Native.Nat.{_<_, _+_};
 ghost use lib.ListN.{length, getD, drop};
-ghost use Rattle.source.specs.Cells.{isCapital, isSmall};
-ghost use Rattle.source.specs.Tokens.{isDigit, inName, keywordAt, lexeme};
-ghost use Rattle.tokens.specs.Internal.{Is, RunEnds};
-
-// A token and the place of the cell behind it; the place behind a name; or the number of the refusal.
-pub enum One {
-    Token(Token, usize),
-    Name(usize),
-    Wrong(u32),
-}
-
-fn is_capital(c: u8) -> bool
-    ensures { λ r. ⌜ r ≡ isCapital c ⌝ }
-{
-    if c < 65 {
-        return false;
-    }
-    c <= 90
-}
-
-fn is_small(c: u8) -> bool
-    ensures { λ r. ⌜ r ≡ isSmall c ⌝ }
-{
-    if c < 97 {
-        return false;
-    }
-    c <= 122
-}
+ghost use Rattle.source.specs.Tokens.{isDigit, inName, lexeme};
+ghost use Rattle.tokens_fixed.specs.Answers.{Is};
+ghost use Rattle.tokens.specs.Internal.{RunEnds};
 
 fn is_digit(c: u8) -> bool
     ensures { λ r. ⌜ r ≡ isDigit c ⌝ }
@@ -53,31 +29,6 @@ fn in_name(c: u8) -> bool
         return true;
     }
     is_digit(c)
-}
-
-// "always taking the longest of BEGIN ENDOFPROGRAM INTEGER IF THEN ELSE". Keyword letters are small in cells.
-fn keyword_at(cells: &[u8], at: usize) -> One
-    ensures { λ r. ⌜ Is (now (cells .entry)) at r (keywordAt (drop at (now (cells .entry)))) ⌝ }
-{
-    if let Place::Behind(q) = fixed_at(cells, at, b"endofprogram") {
-        return One::Token(Token::Mark(129), q);
-    }
-    if let Place::Behind(q) = fixed_at(cells, at, b"integer") {
-        return One::Token(Token::Mark(130), q);
-    }
-    if let Place::Behind(q) = fixed_at(cells, at, b"begin") {
-        return One::Token(Token::Mark(128), q);
-    }
-    if let Place::Behind(q) = fixed_at(cells, at, b"then") {
-        return One::Token(Token::Mark(132), q);
-    }
-    if let Place::Behind(q) = fixed_at(cells, at, b"else") {
-        return One::Token(Token::Mark(133), q);
-    }
-    if let Place::Behind(q) = fixed_at(cells, at, b"if") {
-        return One::Token(Token::Mark(131), q);
-    }
-    One::Wrong(5)
 }
 
 // "the letters and digits after it": the place behind those from a place on.

@@ -1,17 +1,19 @@
 // From the cells of a statement to its tokens, document 01. Comments in quotes are document 01's words.
-mod constant;
 mod lexeme;
-mod signs;
 
-use lexeme::One;
+use base::part;
+use source::MOST_CELLS;
 use source::Statement;
+use tokens_fixed::One;
 ghost use mathlib.Core.Path.{_≡_};
 ghost use Prim.Native.Nat.{_<_};
-ghost use lib.ListN.{length, take};
+ghost use lib.ListN.{length};
+ghost use Rattle.source.specs.Limits.{mostCells};
 ghost use Rattle.source.specs.Memory.{held};
 ghost use Rattle.source.specs.Tokens.{lexemes};
+ghost use Rattle.tokens_fixed.specs.Answers.{Sound};
 ghost use Rattle.tokens.specs.Answers.{lexedIn, Room, Few};
-ghost use Rattle.tokens.specs.Internal.{Sound, storedOf, Scanned};
+ghost use Rattle.tokens.specs.Internal.{storedOf, Scanned};
 
 // The number of tokens, or the number of the refusal: 5 or 6.
 pub enum Lexed {
@@ -39,7 +41,7 @@ fn stored_of(one: One, at: usize) -> Stored
 
 // All tokens of cells, put into two arrays.
 fn scan(cells: &[u8], kinds: &mut [u8], values: &mut [u32]) -> Lexed
-    requires { ⌜ length (now cells) < 256 ⌝ }
+    requires { ⌜ length (now cells) < mostCells ⌝ }
     ensures { λ r. ⌜ Scanned (now (cells .entry)) (now (kinds .exit)) (now (values .exit)) r ⌝ }
 {
     let mut at = 0;
@@ -59,17 +61,6 @@ fn scan(cells: &[u8], kinds: &mut [u8], values: &mut [u32]) -> Lexed
     Lexed::Tokens(n)
 }
 
-// The tokens of the first cells of an array.
-fn scan_front(cells: &[u8], n: usize, kinds: &mut [u8], values: &mut [u32]) -> Lexed
-    requires { ⌜ n < 256 ⌝ }
-    ensures { λ r. ⌜ Scanned (take n (now (cells .entry))) (now (kinds .exit)) (now (values .exit)) r ⌝ }
-{
-    if cells.len() <= n {
-        return scan(cells, kinds, values);
-    }
-    scan(&cells[..n], kinds, values)
-}
-
 // The tokens of a statement. One that no end mark fits behind has more than 256 cells.
 pub fn tokens(s: Statement, kinds: &mut [u8], values: &mut [u32]) -> Lexed
     ensures read { λ r. ⌜ (Room s (now (kinds .entry)) (now (values .entry))
@@ -77,8 +68,8 @@ pub fn tokens(s: Statement, kinds: &mut [u8], values: &mut [u32]) -> Lexed
     ensures few { λ r. ⌜ Few s r ⌝ }
 {
     let n = s.length;
-    if 255 < n {
+    if MOST_CELLS <= n {
         return Lexed::Refused(4);
     }
-    scan_front(&s.cells, n, kinds, values)
+    scan(part(&s.cells, 0, n), kinds, values)
 }

@@ -11,13 +11,16 @@ use Rattle.sheet.specs.declared.Field.{Field}
 use Rattle.sheet.specs.Sheet.{Instruction}
 use Rattle.sheet.specs.Fields.{fieldsOfAll}
 use Rattle.sheet.specs.Translation.{temporary, instructionCode, instructionsCode}
-use Rattle.translate.specs.declared.put.Spot.{Spot}
-use Rattle.translate.specs.Internal.{left, Placed, placed, written, putOrder, putOrders, Putting}
-use Rattle.translate.specs.Internal.{instructionBy, HoldsAll}
-use Rattle.translate.proofs.Places.{left-length}
-use Rattle.translate.proofs.Measured.{not-else, fields-left}
-use Rattle.translate.proofs.Coded.{place, put-append, put-place, put-sets, instruction-coded}
-use Rattle.translate.proofs.Summing.{none-left}
+use Rattle.translate_size.specs.Internal.{left}
+use Rattle.translate_size.proofs.Places.{left-length}
+use Rattle.translate_size.proofs.Measured.{not-else, fields-left}
+use Rattle.translate_size.proofs.Summing.{none-left}
+use Rattle.translate_expression.specs.declared.Spot.{Spot}
+use Rattle.translate_expression.specs.Internal.{Placed, placed, written, putOrder, putOrders, Putting}
+use Rattle.translate_expression.proofs.Coded.{place, put-append, put-place, put-sets}
+use Rattle.translate_instruction.specs.Internal.{instructionBy}
+use Rattle.translate_instruction.proofs.Coded.{instruction-coded}
+use Rattle.translate.specs.Internal.{HoldsAll}
 
 -- what two of these have that are one
 same-written : (l m : List Field) (p q : Placed) → written l p ≡ written m q → (l ≡ m) × (p ≡ q)

@@ -1,10 +1,3 @@
-pub mod Places
-pub mod Sizes
-pub mod Measured
-pub mod Puts
-pub mod Coded
-pub mod Summing
 pub mod Filling
-pub mod Lengths
 pub mod Within
 pub mod Sheets

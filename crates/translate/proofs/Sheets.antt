@@ -15,17 +15,16 @@ use Rattle.order.specs.Limits.{mostVariables, mostTemporaries, mostOrders}
 use Rattle.sheet.specs.Sheet.{Simple, set, send, goto, Instruction, simple, when, either, Sheet, sheet}
 use Rattle.sheet.specs.Within.{Leads, SimpleFormed, InstructionFormed, AllFormed, Formed}
 use Rattle.sheet.specs.Fields.{fieldsOfAll}
-use Rattle.sheet.specs.Memory.{fieldsFrom}
 use Rattle.sheet.specs.Translation.{simpleCode, comparisonCode, choice, closed, instructionCode, instructionsCode, orders}
-use Rattle.sheet.specs.Translation.{ordersOfAll, firstOrder}
-use Rattle.sheet.specs.Translation.{translation, sheetTemporaries}
-use Rattle.translate.specs.declared.size.Size.{Size}
-use Rattle.sheet.specs.Memory.{mostFields}
+use Rattle.sheet.specs.Translation.{ordersOfAll, firstOrder, translation, sheetTemporaries}
+use Rattle.sheet_field.specs.Memory.{fieldsFrom, mostFields}
+use Rattle.translate_size.specs.declared.Size.{Size}
+use Rattle.translate_size.specs.Internal.{left, firstOrders, Total, Totals}
+use Rattle.translate_size.proofs.Places.{left-length}
+use Rattle.translate_size.proofs.Measured.{some-instruction}
+use Rattle.translate_size.proofs.Lengths.{translation-length, instruction-twice, fields-twice}
 use Rattle.translate.specs.Answers.{OfSheet, withinLimits, whole, over, answerFor, filledFor}
-use Rattle.translate.specs.Internal.{left, firstOrders, Total, Totals, HoldsAll}
-use Rattle.translate.proofs.Places.{left-length}
-use Rattle.translate.proofs.Measured.{some-instruction}
-use Rattle.translate.proofs.Lengths.{translation-length, instruction-twice, fields-twice}
+use Rattle.translate.specs.Internal.{HoldsAll}
 use Rattle.translate.proofs.Within.{temporaries-over, orders-over, none-over}
 
 -- ---- where GOTO s leads: the array of first orders has it for every s that a sheet may name

@@ -1,40 +1,22 @@
--- What the public functions answer, of fields that two arrays hold: their numbers ks, and the numbers vs that they carry.
+-- What translate answers, of fields that two arrays hold: their numbers ks, and the numbers vs that they carry.
 -- Comments in quotes are document 01's words.
-use Prim.Native.Nat.{ℕ, _+_, _-_, _≤_}
+use Prim.Native.Nat.{ℕ}
 use mathlib.Core.Path.{_≡_}
 use mathlib.Core.Bool.{Bool, false}
-use mathlib.Core.List.{List, _∷_, map}
+use mathlib.Core.List.{List, map}
 use lib.Dec.{leb}
 use lib.ListN.{length}
 use lib.Seq.{sets}
 use Rattle.base.specs.Choice.{pick}
 use Rattle.order.specs.declared.Order.{Order}
 use Rattle.order.specs.Limits.{mostVariables, mostTemporaries, mostOrders}
-use Rattle.sheet.specs.Sheet.{Instruction, Sheet, variables}
+use Rattle.sheet.specs.Sheet.{Sheet, variables}
 use Rattle.sheet.specs.Within.{Formed}
-use Rattle.sheet.specs.Fields.{instructionFields, fieldsOfAll, sheetFields}
-use Rattle.sheet.specs.Memory.{fieldsFrom}
-use Rattle.sheet.specs.Translation.{orders, instructionTemporaries, translation, sheetTemporaries}
-use Rattle.translate.specs.declared.size.Size.{Size}
+use Rattle.sheet.specs.Fields.{sheetFields}
+use Rattle.sheet.specs.Translation.{translation, sheetTemporaries}
+use Rattle.sheet_field.specs.Memory.{fieldsFrom}
 use Rattle.translate.specs.declared.Translated.{Translated}
 use Rattle.translate.specs.declared.Translated.the-variants.{Whole, Over}
-use Rattle.sheet.specs.Memory.{mostFields}
-
--- ---- the size of an instruction
-
--- where it ends, its orders and its temporaries; it begins at a place
-pub record SizeOf (at : ℕ) (i : Instruction) (r : Size) : Type 0 where
-  pub behind : r .at ≡ at + length (instructionFields i)
-  pub orders-too : (v : ℕ) → r .orders ≡ orders v i
-  pub temporaries-too : r .temporaries ≡ instructionTemporaries i
-
--- the size at a place of n fields is that of the first of the instructions whose fields are left there
-abbrev pub SizeAt : List ℕ → List ℕ → ℕ → ℕ → Size → Type 0
-SizeAt ks vs n at r =
-    n ≤ mostFields
-    → (i : Instruction) (is : List Instruction)
-    → fieldsFrom at (n - at) ks vs ≡ fieldsOfAll (i ∷ is)
-    → SizeOf at i r
 
 -- ---- the translation of a sheet
 

@@ -1,22 +1,48 @@
 // The translation of a sheet, document 01 ("Translation"): from its fields in two arrays to its orders in two arrays.
-mod node;
-mod put;
-pub mod size;
-
-use crate::put::put_all;
-use crate::size::total_size;
 use order::MOST_ORDERS;
 use order::MOST_TEMPORARIES;
 use order::MOST_VARIABLES;
-use sheet::MOST_FIELDS;
+use order::Order;
+use sheet_field::MOST_FIELDS;
+use translate_expression::Spot;
+use translate_expression::put_order;
+use translate_instruction::put_instruction;
+use translate_size::total_size;
 ghost use mathlib.Core.Path.{_≡_};
 ghost use Rattle.order.specs.Order.{number, operand};
+ghost use Rattle.translate_expression.specs.Internal.{Room};
+ghost use Rattle.translate.specs.Internal.{HoldsAll};
 ghost use Rattle.translate.specs.Answers.{OfSheet, translated, answerFor, filledFor};
 
 // T and N of a sheet's translation, or that a limit is passed.
 pub enum Translated {
     Whole(u32, u32),
     Over,
+}
+
+// All of them, and STOP.
+fn put_all(
+    kinds: &[u8],
+    values: &[u32],
+    n: usize,
+    word: u32,
+    firsts: &[u32],
+    numbers: &mut [u8],
+    operands: &mut [u32],
+)
+    requires { ⌜ Room n 0 word 0 ⌝ }
+    ensures numbered { λ _. ⌜ HoldsAll (now (kinds .entry)) (now (values .entry)) n word (now (firsts .entry))
+        number (now (numbers .entry)) (now (numbers .exit)) ⌝ }
+    ensures ordered { λ _. ⌜ HoldsAll (now (kinds .entry)) (now (values .entry)) n word (now (firsts .entry))
+        operand (now (operands .entry)) (now (operands .exit)) ⌝ }
+{
+    let mut spot = Spot { at: 0, i: 0 };
+    while spot.at < n {
+        let at = spot.at;
+        let i = spot.i;
+        spot = put_instruction(kinds, values, n, at, word, firsts, numbers, operands, i);
+    }
+    put_order(numbers, operands, spot.i, Order::Stop);
 }
 
 // Translates the sheet with V variables whose fields are the first n of two arrays. The sizes of its instructions come first:

@@ -9,13 +9,16 @@ use borrow.Author.Tests.{lt-leb, le-leb, le-ltb, eq-eqb, ne-eqb, eqb-true}
 use lib.Dec.{eqb}
 use lib.ListN.{length}
 use Rattle.base.specs.Choice.{pick}
+use Rattle.base.specs.Front.{found, missing}
 use Rattle.base.proofs.Cases.{by-test}
 use Rattle.order.specs.declared.Order.{Order}
 use Rattle.order.specs.Order.{number, operand, orderOf}
 use Rattle.order.proofs.Numbers.{order-again}
 use Rattle.sheet.specs.declared.Field.{Field}
-use Rattle.sheet.specs.ReadBack.{Back, found, missing, expecting}
-use Rattle.untranslate.specs.Internal.{takenAt, held, push, Step, went, stuck, onPlace, mostUsed}
+use Rattle.sheet.specs.ReadBack.{Back, expecting}
+use Rattle.untranslate_look.specs.Internal.{takenAt, held, push, Step, went, stuck}
+use Rattle.untranslate_expression.specs.Internal.{onPlace}
+use Rattle.untranslate.specs.Internal.{mostUsed}
 
 -- the k orders from start on, the last first
 unfoldable pub backward : (ℕ → Order) → ℕ → ℕ → List Order

@@ -8,6 +8,7 @@ use borrow.Author.Tests.{lt-leb, le-leb, eq-eqb, ne-eqb}
 use lib.Dec.{eqb}
 use lib.ListN.{length, length-append}
 use Rattle.base.specs.Choice.{pick}
+use Rattle.base.specs.Front.{found, missing, onFront}
 use Rattle.base.proofs.Cases.{by-test, by-equal}
 use Rattle.order.specs.declared.Operation.{Operation}
 use Rattle.order.specs.declared.Operation.the-variants.{Load, Add, Sub, Mlt, Div, Exp, Shl, Shr, And, Or, Xor, Cmp}
@@ -22,17 +23,15 @@ use Rattle.sheet.specs.Sheet.{Expression, word, constant, negated, inverted, bi
 use Rattle.sheet.specs.Sheet.{operand}
 use Rattle.sheet.specs.Fields.{expressionFields}
 use Rattle.sheet.specs.Translation.{operation, temporary, joined, code, joinedTemporaries, temporaries}
-use Rattle.sheet.specs.ReadBack.{Back, found, missing, onBack, expecting, Operands, operands, isVariable, isWorkedOut}
-use Rattle.sheet.specs.ReadBack.{plainOperands, keptOperands, wordOperands}
-use Rattle.sheet.specs.ReadBack.{byOperation, asBinary, lastOrder, expressionBack}
-use Rattle.untranslate.specs.declared.node.Right.the-variants.{Plain, Kept}
-use Rattle.untranslate.specs.declared.node.Node.{Node}
-use Rattle.untranslate.specs.declared.node.Use.{Use}
-use Rattle.untranslate.specs.declared.node.Use.the-variants.{Loads, Joins, Compares}
-use Rattle.untranslate.specs.Internal.{takenAt, Held, held, push, Step, went, stuck, onStep, onPlace, pushed, useOf}
-use Rattle.untranslate.specs.Internal.{rightWord}
-use Rattle.untranslate.specs.Internal.{wordNode, numberNode, nodeOf, isLeaf, leafAt, keptRead, rightRead}
-use Rattle.untranslate.specs.Internal.{operandsRead, nodeRead, expressionRead}
+use Rattle.sheet.specs.ReadBack.{Back, onBack, expecting, Operands, operands, isVariable, isWorkedOut}
+use Rattle.sheet.specs.ReadBack.{plainOperands, keptOperands, wordOperands, byOperation, asBinary, lastOrder, expressionBack}
+use Rattle.untranslate_look.specs.declared.node.Right.the-variants.{Plain, Kept}
+use Rattle.untranslate_look.specs.declared.node.Node.{Node}
+use Rattle.untranslate_look.specs.declared.node.Use.{Use}
+use Rattle.untranslate_look.specs.declared.node.Use.the-variants.{Loads, Joins, Compares}
+use Rattle.untranslate_look.specs.Internal.{takenAt, Held, held, push, Step, went, stuck, onStep, pushed, useOf, rightWord}
+use Rattle.untranslate_look.specs.Internal.{wordNode, numberNode, nodeOf, isLeaf, leafAt}
+use Rattle.untranslate_expression.specs.Internal.{onPlace, keptRead, rightRead, operandsRead, nodeRead, expressionRead}
 use Rattle.untranslate.specs.Internal.{temporaryOf, usedBy, mostUsed}
 use Rattle.untranslate.proofs.Temporaries.{raised, raised-none, raised-both, kept-uses}
 use Rattle.untranslate.proofs.Agreement.{backward, push-room, Took, Agrees, neither, both, agree-expecting}
@@ -121,8 +120,8 @@ module _ (at : ℕ → Order) (v start all : ℕ) where
 
         left : (s : Step) (b : Back Expression) → ExpressionAgrees d k out (x ∷ gs) s b
             → TwoAgrees d k (suc out) gs s (onBack b (λ l rest. found (operands l right) rest))
-        left s b neither = unfold onBack in neither
-        left s b (both l k₁ out₁ hs also t) = unfold onBack in
+        left s b neither = unfold onFront in neither
+        left s b (both l k₁ out₁ hs also t) = unfold onFront in
             both (operands l right) k₁ out₁ hs tt
             (record {
               count = t .count ∙ ap (λ n. n + k₁) (sym (es (length (code v d l))));
@@ -188,8 +187,8 @@ module _ (at : ℕ → Order) (v start all : ℕ) where
         where
           left : (s : Step) (b : Back Expression) → ExpressionAgrees d k₄ out₃ hs s b
               → TwoAgrees d k out gs s (onBack b (λ l rest. found (operands l right) rest))
-          left s b neither = unfold onBack in neither
-          left s b (both l k₅ out₅ is also u) = unfold onBack in
+          left s b neither = unfold onFront in neither
+          left s b (both l k₅ out₅ is also u) = unfold onFront in
               both (operands l right) k₅ out₅ is tt
               (record {
                 count =
@@ -243,7 +242,7 @@ module _ (at : ℕ → Order) (v start all : ℕ) where
             → Joined
             (pick (leafAt at (v + 2) start (start + k₂)) stuck (onStep s behind-right))
             (onBack b (λ right l. pick (isWorkedOut (operand right)) (before-right right l) missing))
-        unfolding onStep onBack pick
+        unfolding onStep onFront pick
         right-kept s b neither =
             by-test (leafAt at (v + 2) start (start + k₂)) (λ t. rw t neither-joined) (λ t. rw t neither-joined)
         right-kept s b (both (word w) k₃ out₃ hs also t) = rw also neither-joined
@@ -304,7 +303,7 @@ module _ (at : ℕ → Order) (v start all : ℕ) where
           → at (start + k) ≡ f → usedBy v f ≡ 0 → leafAt at (v + 2) start (start + suc k) ≡ false
           → TwoAgrees d k out gs s b
           → ExpressionAgrees d (suc k) out gs (pushed (Binary o) s) (asBinary o b)
-      unfolding onStep onBack
+      unfolding onStep onFront
       over-agrees o f s b of uf lf neither = neither
       over-agrees o f s b of uf lf (both (operands l r) k₁ zero hs also t) =
           let c = t .count in let n = t .few in let g = t .filled in absurd (omega (arith, c, n, g))
@@ -368,7 +367,7 @@ module _ (at : ℕ → Order) (v start all : ℕ) where
           → at (start + k) ≡ f → usedBy v f ≡ 0 → leafAt at (v + 2) start (start + suc k) ≡ false
           → ExpressionAgrees d k out gs s b
           → ExpressionAgrees d (suc k) out gs (pushed x s) (onBack b (λ e rest. found (c e) rest))
-      unfolding onStep onBack
+      unfolding onStep onFront
       unary-agrees c x f s b ef ec et ep of uf lf neither = neither
       unary-agrees c x f s b ef ec et ep of uf lf (both e k₁ zero hs also t) =
           let q = t .count in let n = t .few in let g = t .filled in absurd (omega (arith, q, n, g))

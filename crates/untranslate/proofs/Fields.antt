@@ -6,7 +6,7 @@ use mathlib.Core.List.{List, [], _∷_, _++_, append-assoc}
 use native.Mathlib.Omega.{arith}
 use lib.ListN.{length, length-append}
 use Rattle.sheet.specs.declared.Field.{Field}
-use Rattle.untranslate.specs.Internal.{Held, held, push, Step, went, stuck, onStep, pushed}
+use Rattle.untranslate_look.specs.Internal.{Held, held, push, Step, went, stuck, onStep, pushed}
 use Rattle.untranslate.proofs.Agreement.{push-room}
 
 pub data Answer : Type 0 where

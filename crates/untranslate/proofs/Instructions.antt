@@ -9,6 +9,7 @@ use borrow.Author.Tests.{lt-leb, le-leb, eq-eqb, ne-eqb}
 use lib.Dec.{eqb}
 use lib.ListN.{length, length-append}
 use Rattle.base.specs.Choice.{pick}
+use Rattle.base.specs.Front.{found, missing, onFront}
 use Rattle.base.proofs.Cases.{by-test, by-equal}
 use Rattle.word.specs.declared.Relation.{Relation}
 use Rattle.order.specs.declared.Order.{Order}
@@ -16,22 +17,22 @@ use Rattle.order.specs.declared.Order.the-variants.{Word, Number, Store, Neg, N
 use Rattle.sheet.specs.declared.Field.the-variants.{Else, Then, If, Set}
 use Rattle.sheet.specs.Sheet.{Expression, Simple, Instruction, simple, when, either}
 use Rattle.sheet.specs.Fields.{expressionFields, instructionFields}
-use Rattle.sheet.specs.Translation.{opposite, simpleCode, comparisonCode, orders, simpleTemporaries}
-use Rattle.sheet.specs.Translation.{comparisonTemporaries, instructionTemporaries}
-use Rattle.sheet.specs.ReadBack.{Back, found, missing, onBack, nothingLeft, Operands, operands, comparisonBack, Cut}
-use Rattle.sheet.specs.ReadBack.{cutFrom, simpleEnd, simpleAt, isVariable}
-use Rattle.sheet.specs.ReadBack.{isHere, jumpsTo, elseAt, choiceAt, asSimple, instructionEnd, instructionCut}
-use Rattle.sheet.specs.ReadBack.{instructionAt, retarget, retargetOne, leads, leadsOne}
-use Rattle.untranslate.specs.declared.orders.Place.{Place}
-use Rattle.untranslate.specs.declared.orders.Place.the-variants.{At, Nowhere}
-use Rattle.untranslate.specs.declared.shape.Ending.the-variants.{Ends, Bad as NoEnding}
-use Rattle.untranslate.specs.declared.shape.Shape.{Shape}
-use Rattle.untranslate.specs.declared.shape.Shape.the-variants.{Simple as SimpleShape, When, Either, Bad as NoShape}
-use Rattle.untranslate.specs.Internal.{Held, push, Step, stuck, onStep, pushed, comparisonRead, scanFrom, endingOf}
-use Rattle.untranslate.specs.Internal.{simpleEnding, simplePast, jumpEnding, jumpOf}
-use Rattle.untranslate.specs.Internal.{shapeOn, elseShape, choiceShape, endingShape, shapeFrom, shapeAt, shapePast}
-use Rattle.untranslate.specs.Internal.{simpleRead, branchRead, conditionRead, choiceRead, eitherRead}
-use Rattle.untranslate.specs.Internal.{instructionRead}
+use Rattle.sheet.specs.Translation.{opposite, simpleCode, comparisonCode, orders, simpleTemporaries, comparisonTemporaries}
+use Rattle.sheet.specs.Translation.{instructionTemporaries}
+use Rattle.sheet.specs.ReadBack.{Back, onBack, nothingLeft, Operands, operands, comparisonBack, Cut, cutFrom}
+use Rattle.sheet.specs.ReadBack.{simpleEnd, simpleAt, isVariable, isHere, jumpsTo, elseAt, choiceAt, asSimple}
+use Rattle.sheet.specs.ReadBack.{instructionEnd, instructionCut, instructionAt, retarget, retargetOne, leads, leadsOne}
+use Rattle.untranslate_look.specs.declared.orders.Place.{Place}
+use Rattle.untranslate_look.specs.declared.orders.Place.the-variants.{At, Nowhere}
+use Rattle.untranslate_look.specs.Internal.{Held, push, Step, stuck, onStep, pushed}
+use Rattle.untranslate_expression.specs.Internal.{comparisonRead}
+use Rattle.untranslate_shape.specs.declared.Ending.the-variants.{Ends, Bad as NoEnding}
+use Rattle.untranslate_shape.specs.declared.Shape.{Shape}
+use Rattle.untranslate_shape.specs.declared.Shape.the-variants.{Simple as SimpleShape, When, Either, Bad as NoShape}
+use Rattle.untranslate_shape.specs.Internal.{scanFrom, endingOf, simpleEnding, simplePast, jumpEnding, jumpOf, shapeOn}
+use Rattle.untranslate_shape.specs.Internal.{elseShape, choiceShape, endingShape, shapeFrom, shapeAt, shapePast}
+use Rattle.untranslate_instruction.specs.Internal.{simpleRead, branchRead, conditionRead, choiceRead, eitherRead}
+use Rattle.untranslate_instruction.specs.Internal.{instructionRead}
 use Rattle.untranslate.specs.Internal.{mostUsed}
 use Rattle.untranslate.proofs.Agreement.{backward}
 use Rattle.untranslate.proofs.Fields.{Answer, wrote, refused, inFront, Does, does-same, does-around, does-then}
@@ -90,7 +91,7 @@ asShape Nowhere = NoShape
 
 as-instruction : {at : ℕ → Order} {v p n : ℕ} {q : Place} {b : Back Simple}
     → SimplePart at v p n q b → InstructionPart at v p n (asShape q) (asSimple b)
-unfolding instructionRead onBack
+unfolding instructionRead onFront
 as-instruction nowhere = bad
 as-instruction {at} {v} {p} (failed j k e d) = unread (SimpleShape (p + suc j)) j k refl e d
 as-instruction {at} {v} {p} (read u j k e d s t) = whole (SimpleShape (p + suc j)) (simple u) j k refl e d s t
@@ -132,8 +133,8 @@ module _ (at : ℕ → Order) (v n u : ℕ) (q : Relation) (a : ℕ) where
       where
         go : (c : Back Simple) → Known at v u j k c → (l r : Expression)
             → onBack c (λ s rest. elseAt v n q (operands l r) a s rest) ≡ missing
-        go missing x l r = unfold onBack in refl
-        go (found s rest) x l r = unfold onBack in rw (x .0) (m l r s)
+        go missing x l r = unfold onFront in refl
+        go (found s rest) x l r = unfold onFront in rw (x .0) (m l r s)
 
     module _ (k : ℕ) (part : Part at v u n j (suc k) b) (hf : Elsewhere) where
       -- the JMP is there, and the branch leads past it
@@ -142,7 +143,7 @@ module _ (at : ℕ → Order) (v n u : ℕ) (q : Relation) (a : ℕ) where
           ≡ onBack b₂ (λ w rest. pick (isHere n to rest) (found (either (opposite q) l r s w) rest) missing))
           → Choice (shapeOn p (λ e. pick (eqb e to) (Either u (suc past) e) NoShape)) f
       unfolding shapeOn pick
-      second to o s p b₂ unplaced m = nothing-else (suc k) (part .known) (λ l r w. m l r w ∙ (unfold onBack in refl)) hf
+      second to o s p b₂ unplaced m = nothing-else (suc k) (part .known) (λ l r w. m l r w ∙ (unfold onFront in refl)) hf
       second to o s p b₂ (placed j₂ k₂ c part₂) m =
           by-equal (suc past + suc j₂) to
           (λ e. rw (eq-eqb (suc past + suc j₂) to e)
@@ -153,16 +154,16 @@ module _ (at : ℕ → Order) (v n u : ℕ) (q : Relation) (a : ℕ) where
           not-here : (suc past + suc j₂ ≡ to → ⊥) → (c : Back Simple) → Known at v (suc past) j₂ k₂ c
               → (l r : Expression) (s : Simple)
               → onBack c (λ w rest. pick (isHere n to rest) (found (either (opposite q) l r s w) rest) missing) ≡ missing
-          not-here e missing x l r s = unfold onBack in refl
-          not-here e (found w rest) x l r s = unfold onBack in unfold pick in
+          not-here e missing x l r s = unfold onFront in refl
+          not-here e (found w rest) x l r s = unfold onFront in unfold pick in
               rw (x .0, here-no at n to (suc past + suc j₂) k₂ (part₂ .ends) (λ z. e (sym z))) refl
 
           here : suc past + suc j₂ ≡ to → (c : Back Simple) → Known at v (suc past) j₂ k₂ c
               → (l r : Expression) (s : Simple)
               → onBack c (λ w rest. pick (isHere n to rest) (found (either (opposite q) l r s w) rest) missing)
               ≡ onBack c (λ w rest. found (either (opposite q) l r s w) rest)
-          here e missing x l r s = unfold onBack in refl
-          here e (found w rest) x l r s = unfold onBack in unfold pick in
+          here e missing x l r s = unfold onFront in refl
+          here e (found w rest) x l r s = unfold onFront in unfold pick in
               rw (x .0, here-yes at n to (suc past + suc j₂) k₂ (part₂ .ends) (sym e)) refl
 
           both-read : suc past + suc j₂ ≡ to → (b c : Back Simple) → Known at v u j (suc k) b
@@ -172,9 +173,9 @@ module _ (at : ℕ → Order) (v n u : ℕ) (q : Relation) (a : ℕ) where
               → (l r : Expression)
               → onBack b (λ s rest. elseAt v n q (operands l r) a s rest)
               ≡ onBack b (λ s rest. onBack c (λ w rest₂. found (either (opposite q) l r s w) rest₂))
-          both-read e missing c x y m l r = unfold onBack in refl
+          both-read e missing c x y m l r = unfold onFront in refl
           both-read e (found s rest) c x y m l r =
-              unfold onBack in (ap (λ z. elseAt v n q (operands l r) a s z) (x .0) ∙ m l r s ∙ here e c y l r s)
+              unfold onFront in (ap (λ z. elseAt v n q (operands l r) a s z) (x .0) ∙ m l r s ∙ here e c y l r s)
 
       -- no JMP there
       no-jump : (o : Order) → at past ≡ o → jumpEnding (endingOf (v + 2) o) ≡ Nowhere
@@ -237,7 +238,7 @@ module _ (at : ℕ → Order) (v n u : ℕ) (q : Relation) (a : ℕ) where
       (elseAt v n q (operands l r) a s rest)))
       → Choice (shapeOn p (λ x. pick (eqb a x) (When u x) (elseShape at (v + 2) n u x a))) f
   unfolding shapeOn pick
-  choice-placed p b f unplaced hf = none f (λ l r. hf l r ∙ (unfold onBack in refl))
+  choice-placed p b f unplaced hf = none f (λ l r. hf l r ∙ (unfold onFront in refl))
   choice-placed p b f (placed j k c part) hf =
       by-equal a (u + suc j)
       (λ e. rw (eq-eqb a (u + suc j) e) (one f j k c part (λ l r. hf l r ∙ here e c (part .known) l r)))
@@ -247,17 +248,17 @@ module _ (at : ℕ → Order) (v n u : ℕ) (q : Relation) (a : ℕ) where
           → onBack c
           (λ s rest. pick (isHere n a rest) (found (when (opposite q) l r s) rest) (elseAt v n q (operands l r) a s rest))
           ≡ onBack c (λ s rest. found (when (opposite q) l r s) rest)
-      here e missing x l r = unfold onBack in refl
+      here e missing x l r = unfold onFront in refl
       here e (found s rest) x l r =
-          unfold onBack in unfold pick in rw (x .0, here-yes at n a (u + suc j) k (part .ends) e) refl
+          unfold onFront in unfold pick in rw (x .0, here-yes at n a (u + suc j) k (part .ends) e) refl
 
       not-here : (a ≡ u + suc j → ⊥) → (c : Back Simple) → Known at v u j k c → (l r : Expression)
           → onBack c
           (λ s rest. pick (isHere n a rest) (found (when (opposite q) l r s) rest) (elseAt v n q (operands l r) a s rest))
           ≡ onBack c (λ s rest. elseAt v n q (operands l r) a s rest)
-      not-here e missing x l r = unfold onBack in refl
+      not-here e missing x l r = unfold onFront in refl
       not-here e (found s rest) x l r =
-          unfold onBack in unfold pick in rw (x .0, here-no at n a (u + suc j) k (part .ends) e) refl
+          unfold onFront in unfold pick in rw (x .0, here-no at n a (u + suc j) k (part .ends) e) refl
 
   choice-agrees : (k : ℕ) → u + k ≡ n → Choice (choiceShape at (v + 2) n u a) (λ two. choiceAt v n q a two (forward at u k))
   unfolding choiceShape
@@ -418,7 +419,7 @@ module _ (at : ℕ → Order) (v p n j : ℕ) (q : Relation) (a : ℕ) (of : at 
 
     read-choice : (shape : Shape) (f : Operands → Back Instruction)
         → Choice at v n first q a shape f → InstructionPart at v p n shape (f (operands l r))
-    unfolding instructionRead inFront onBack
+    unfolding instructionRead inFront onFront
     read-choice shape f (none g m) = rw (m l r) bad
     read-choice shape f (one g j₁ k₁ missing part m) =
         let past : first + suc j₁ ≡ p + suc (j + suc j₁) = omega arith in
@@ -475,7 +476,7 @@ module _ (at : ℕ → Order) (v p n j : ℕ) (q : Relation) (a : ℕ) (of : at 
 
   branch-part : (b : Back Operands) → WholeComparison at v p j b → (shape : Shape) (f : Operands → Back Instruction)
       → Choice at v n first q a shape f → InstructionPart at v p n shape (onBack b (λ two l. nothingLeft l (f two)))
-  unfolding onBack nothingLeft
+  unfolding onFront nothingLeft
   branch-part b (fails c d none-found) shape f choice = unread-choice shape f d choice
   branch-part b (fails c d (some-left x o l)) shape f choice = unread-choice shape f d choice
   branch-part b (reads (operands l r) d s u) shape f choice = read-choice l r d s u shape f choice

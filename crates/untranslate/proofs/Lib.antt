@@ -1,6 +1,4 @@
-pub mod Putting
 pub mod Loops
-pub mod Cycle
 pub mod Agreement
 pub mod Fields
 pub mod Wholes

@@ -12,49 +12,13 @@ use lib.Seq.{getD-set-same, getD-set-other}
 use Rattle.base.specs.Choice.{pick}
 use Rattle.order.specs.declared.Order.{Order}
 use Rattle.order.specs.Order.{ordersFrom}
-use Rattle.untranslate.specs.declared.orders.Place.the-variants.{At, Nowhere}
-use Rattle.untranslate.specs.Internal.{Held, view, went, stuck, onStep, isEndAt, shapeAt, shapePast}
-use Rattle.untranslate.specs.Internal.{instructionRead, downFrom, allRead}
-use Rattle.untranslate.specs.Internal.{Starts, starts, unmarked, behind, startsOn, startsFrom}
-use Rattle.untranslate.specs.Internal.{orderAt, inside, scanFrom, wordsFrom, numberIn, usedBy, mostUsed}
-
--- what is left before n, one more and none
-left : (n i : ℕ) → i < n → n - i ≡ suc (n - (i + 1))
-left n i h = omega (arith, h)
-
-none-left : (n i : ℕ) → n ≤ i → n - i ≡ 0
-none-left n i h = omega (arith, h)
-
--- ---- the first order that ends an expression
-
-module _ (at : ℕ → Order) (first n i : ℕ) where
-  pub scan-turn : i < n → inside first (at i) ≡ true → scanFrom at first (n - (i + 1)) (i + 1) ≡ scanFrom at first (n - i) i
-  unfolding scanFrom pick
-  scan-turn h e = rw (left n i h, e, add-one i) refl
-
-  pub scan-end : i < n → inside first (at i) ≡ false → i ≡ scanFrom at first (n - i) i
-  unfolding scanFrom pick
-  scan-end h e = rw (left n i h, e) refl
-
-  pub scan-over : n ≤ i → i ≡ scanFrom at first (n - i) i
-  unfolding scanFrom
-  scan-over h = rw (none-left n i h) refl
-
--- ---- the number of a place
-
-module _ (ss : List ℕ) (a n i : ℕ) where
-  pub number-turn : i < n → (getD ss i 0 ≡ a → ⊥)
-      → numberIn (wordsFrom (i + 1) (n - (i + 1)) ss) (i + 1 + 1) a ≡ numberIn (wordsFrom i (n - i) ss) (i + 1) a
-  unfolding numberIn wordsFrom pick
-  number-turn h e = rw (left n i h, ne-eqb (getD ss i 0) a e, add-one (i + 1), add-one i) refl
-
-  pub number-found : i < n → getD ss i 0 ≡ a → i + 1 ≡ numberIn (wordsFrom i (n - i) ss) (i + 1) a
-  unfolding numberIn wordsFrom pick
-  number-found h e = rw (left n i h, eq-eqb (getD ss i 0) a e) refl
-
-  pub number-over : n ≤ i → 0 ≡ numberIn (wordsFrom i (n - i) ss) (i + 1) a
-  unfolding numberIn wordsFrom
-  number-over h = rw (none-left n i h) refl
+use Rattle.untranslate_look.specs.declared.orders.Place.the-variants.{At, Nowhere}
+use Rattle.untranslate_look.specs.Internal.{Held, view, went, stuck, onStep, isEndAt, orderAt}
+use Rattle.untranslate_look.proofs.Left.{left, none-left}
+use Rattle.untranslate_shape.specs.Internal.{shapeAt, shapePast}
+use Rattle.untranslate_instruction.specs.Internal.{instructionRead, wordsFrom, numberIn}
+use Rattle.untranslate.specs.Internal.{downFrom, allRead, Starts, starts, unmarked, behind, startsOn, startsFrom}
+use Rattle.untranslate.specs.Internal.{usedBy, mostUsed}
 
 -- ---- the temporaries that are used
 

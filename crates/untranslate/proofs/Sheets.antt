@@ -9,19 +9,21 @@ use borrow.Author.Tests.{lt-leb, le-leb, eq-eqb, ne-eqb, eqb-true}
 use lib.Dec.{eqb}
 use lib.ListN.{length}
 use Rattle.base.specs.Choice.{pick}
+use Rattle.base.specs.Front.{found, missing, onFront}
 use Rattle.base.proofs.Cases.{by-test}
 use Rattle.order.specs.declared.Order.{Order}
 use Rattle.order.specs.Order.{number}
 use Rattle.sheet.specs.Sheet.{Instruction}
 use Rattle.sheet.specs.Fields.{fieldsOfAll}
 use Rattle.sheet.specs.Translation.{orders, instructionTemporaries, temporariesOfAll}
-use Rattle.sheet.specs.ReadBack.{Back, found, missing, onBack, instructionAt, isEnd, instructionsAt, numberFrom}
-use Rattle.sheet.specs.ReadBack.{retargetOne, retargetAll, leadsOne, leadsAll}
+use Rattle.sheet.specs.ReadBack.{Back, onBack, instructionAt, isEnd, instructionsAt, numberFrom, retargetOne}
+use Rattle.sheet.specs.ReadBack.{retargetAll, leadsOne, leadsAll}
 use Rattle.sheet.proofs.Found.{stop-told}
-use Rattle.untranslate.specs.declared.shape.Shape.{Shape}
-use Rattle.untranslate.specs.Internal.{isEndAt, Held, held, Step, went, onStep, counted, shapeAt, shapePast}
-use Rattle.untranslate.specs.Internal.{numberIn, instructionRead}
-use Rattle.untranslate.specs.Internal.{Starts, starts, unmarked, behind, startsOn, startsFrom, mostUsed}
+use Rattle.untranslate_look.specs.Internal.{isEndAt, Held, held, Step, went, onStep}
+use Rattle.untranslate_shape.specs.declared.Shape.{Shape}
+use Rattle.untranslate_shape.specs.Internal.{shapeAt, shapePast}
+use Rattle.untranslate_instruction.specs.Internal.{numberIn, instructionRead}
+use Rattle.untranslate.specs.Internal.{counted, Starts, starts, unmarked, behind, startsOn, startsFrom, mostUsed}
 use Rattle.untranslate.proofs.Fields.{Answer, wrote, refused, inFront, Does, refuses, writes, does-same, does-then}
 use Rattle.untranslate.proofs.Simples.{forward}
 use Rattle.untranslate.proofs.Instructions.{answerOne, InstructionPart, bad, unread, whole, instruction-part}
@@ -124,7 +126,7 @@ module _ (at : ℕ → Order) (v n : ℕ) where
         → mostUsed v (forward at p (suc j + k₁)) ≡ max (instructionTemporaries i) (mostUsed v (forward at (p + suc j) k₁))
         → AllPart (p + suc j) k₁ ss b
         → AllPart p k (behind (p ∷ []) ss) (onBack b (λ is rest. found (i ∷ is) rest))
-    unfolding behind onBack
+    unfolding behind onFront
     behind-read i d size used no-starts = no-starts
     behind-read i d size used (some-starts ps last missing l g known) =
         some-starts (p ∷ ps) last missing l
@@ -151,7 +153,7 @@ module _ (at : ℕ → Order) (v n : ℕ) where
       → ((q k₁ : ℕ) → q + k₁ ≡ n → AllPart q k₁ (startsFrom at (v + 2) n f q) (instructionsAt f v n (forward at q k₁)))
       → AllPart p k (startsOn (shapePast shape) (λ q. behind (p ∷ []) (startsFrom at (v + 2) n f q)))
       (onBack b (λ i rest. onBack (instructionsAt f v n rest) (λ is end. found (i ∷ is) end)))
-  unfolding startsOn onBack
+  unfolding startsOn onFront
   next-part f p k shape b left e bad all = no-starts
   next-part f p k shape b left e (unread s j k₁ past ends d) all =
       rw past (behind-unread p j k k₁ s e left ends d (all (p + suc j) k₁ ends))

@@ -9,6 +9,7 @@ use borrow.Author.Tests.{lt-leb, le-leb, lt-ltb, le-ltb, eq-eqb, ne-eqb, ltb-tru
 use lib.Dec.{ltb}
 use lib.ListN.{length, length-append}
 use Rattle.base.specs.Choice.{pick}
+use Rattle.base.specs.Front.{found, missing, onFront}
 use Rattle.base.proofs.Cases.{by-test, by-equal, chosen-second}
 use Rattle.order.specs.declared.Order.{Order}
 use Rattle.order.specs.declared.Order.the-variants.{Word, Number, Store, Neg, Not, Jump, Branch, Send, Stop}
@@ -17,17 +18,19 @@ use Rattle.sheet.specs.declared.Field.the-variants.{Send as SendField, Set, Got
 use Rattle.sheet.specs.Sheet.{Expression, Simple, set, send, goto}
 use Rattle.sheet.specs.Fields.{expressionFields, simpleFields}
 use Rattle.sheet.specs.Translation.{code, simpleCode, temporaries, simpleTemporaries}
-use Rattle.sheet.specs.ReadBack.{Back, found, missing, onBack, nothingLeft, isVariable, inExpression, Cut, cut, cutFrom}
+use Rattle.sheet.specs.ReadBack.{Back, onBack, nothingLeft, isVariable, inExpression, Cut, cut, cutFrom}
 use Rattle.sheet.specs.ReadBack.{simpleEnd, simpleCut, simpleAt, retarget, leads}
-use Rattle.untranslate.specs.declared.orders.Place.{Place}
-use Rattle.untranslate.specs.declared.orders.Place.the-variants.{At, Nowhere}
-use Rattle.untranslate.specs.declared.shape.Ending.the-variants.{Ends}
-use Rattle.untranslate.specs.Internal.{Held, went, pushed, wholeRead, inside, scanFrom, endingOf, simpleEnding}
-use Rattle.untranslate.specs.Internal.{pastFrom, simplePast}
-use Rattle.untranslate.specs.Internal.{gotoRead, endingRead, simpleRead, temporaryOf, usedBy, mostUsed}
+use Rattle.untranslate_look.specs.declared.orders.Place.{Place}
+use Rattle.untranslate_look.specs.declared.orders.Place.the-variants.{At, Nowhere}
+use Rattle.untranslate_look.specs.Internal.{Held, went, pushed}
+use Rattle.untranslate_expression.specs.Internal.{wholeRead}
+use Rattle.untranslate_shape.specs.declared.Ending.the-variants.{Ends}
+use Rattle.untranslate_shape.specs.Internal.{inside, scanFrom, endingOf, simpleEnding, pastFrom, simplePast}
+use Rattle.untranslate_instruction.specs.Internal.{gotoRead, endingRead, simpleRead}
+use Rattle.untranslate.specs.Internal.{temporaryOf, usedBy, mostUsed}
 use Rattle.untranslate.proofs.Agreement.{backward}
-use Rattle.untranslate.proofs.Fields.{Answer, wrote, refused, inFront, Does, refuses, writes, does-same}
-use Rattle.untranslate.proofs.Fields.{does-pushed, push-some}
+use Rattle.untranslate.proofs.Fields.{Answer, wrote, refused, inFront, Does, refuses, writes, does-same, does-pushed}
+use Rattle.untranslate.proofs.Fields.{push-some}
 use Rattle.untranslate.proofs.Wholes.{none-found, some-left, fails, reads, expression-whole, WholeExpression}
 
 -- the k orders from p on
@@ -149,7 +152,7 @@ module _ (at : ℕ → Order) (v p n : ℕ) where
     pub whole-part : (b : Back Expression) → WholeExpression at v p j b
         → SimplePart at v p n (At (p + suc j))
         (onBack b (λ x rest. nothingLeft rest (found (c x) (forward at (p + suc j) k))))
-    unfolding onBack nothingLeft inFront
+    unfolding onFront nothingLeft inFront
     whole-part b (fails b₁ d none-found) = failed j k e (λ all to. part-does all to (d all))
     whole-part b (fails b₁ d (some-left x q l)) = failed j k e (λ all to. part-does all to (d all))
     whole-part b (reads x d s u) =

@@ -9,23 +9,26 @@ use borrow.Author.Tests.{eq-eqb, ne-eqb}
 use lib.Dec.{eqb}
 use lib.ListN.{length, getD, length-append}
 use Rattle.base.specs.Choice.{pick}
+use Rattle.base.specs.Front.{found, missing}
 use Rattle.base.proofs.Cases.{by-test}
 use Rattle.order.specs.declared.Order.{Order}
 use Rattle.order.specs.Order.{ordersFrom}
 use Rattle.sheet.specs.declared.Field.{Field}
 use Rattle.sheet.specs.Sheet.{Instruction}
 use Rattle.sheet.specs.Fields.{fieldsOfAll}
-use Rattle.sheet.specs.Memory.{fieldsFrom}
 use Rattle.sheet.specs.Translation.{temporariesOfAll}
-use Rattle.sheet.specs.ReadBack.{Back, found, missing, instructionsAt, numberOf, retargetAll, leadsAll, renumbered}
+use Rattle.sheet.specs.ReadBack.{Back, instructionsAt, numberOf, retargetAll, leadsAll, renumbered}
 use Rattle.sheet.specs.ReadBack.{untranslate}
 use Rattle.sheet.proofs.Retargeted.{length-same, temporaries-same}
+use Rattle.sheet_field.specs.Memory.{fieldsFrom}
+use Rattle.untranslate_look.specs.Internal.{orderAt, Held, held, view, Step, went, stuck, onStep}
+use Rattle.untranslate_shape.specs.Internal.{shapeAt}
+use Rattle.untranslate_instruction.specs.Internal.{wordsFrom, numberIn, instructionRead}
 use Rattle.untranslate.specs.declared.Untranslated.{Untranslated}
 use Rattle.untranslate.specs.declared.Untranslated.the-variants.{Sheet, Missing}
 use Rattle.untranslate.specs.Answers.{Offer, fieldsOfSheet, nothing, readOff, offered}
-use Rattle.untranslate.specs.Internal.{orderAt, Held, held, view, Step, went, stuck, onStep, counted, shapeAt}
-use Rattle.untranslate.specs.Internal.{wordsFrom, numberIn, instructionRead}
-use Rattle.untranslate.specs.Internal.{Starts, starts, unmarked, startsFrom, downFrom, allRead, untold, mostUsed}
+use Rattle.untranslate.specs.Internal.{counted, Starts, starts, unmarked, startsFrom, downFrom, allRead, untold}
+use Rattle.untranslate.specs.Internal.{mostUsed}
 use Rattle.untranslate.proofs.Loops.{words-more}
 use Rattle.untranslate.proofs.Fields.{wrote, refused, Does, refuses, writes}
 use Rattle.untranslate.proofs.Simples.{forward, forward-length}

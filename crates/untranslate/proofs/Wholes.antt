@@ -6,6 +6,7 @@ use native.Mathlib.Omega.{arith}
 use borrow.Author.Tests.{lt-leb, le-leb, eq-eqb, ne-eqb}
 use lib.ListN.{length}
 use Rattle.base.specs.Choice.{pick}
+use Rattle.base.specs.Front.{found, missing}
 use Rattle.base.proofs.Cases.{by-test}
 use Rattle.order.specs.declared.Operation.the-variants.{Cmp}
 use Rattle.order.specs.declared.Order.{Order}
@@ -15,15 +16,15 @@ use Rattle.sheet.specs.declared.Field.the-variants.{Neg as NegField, Not as Not
 use Rattle.sheet.specs.Sheet.{Expression, constant, operand}
 use Rattle.sheet.specs.Fields.{expressionFields}
 use Rattle.sheet.specs.Translation.{code, temporary, temporaries, comparisonCode, comparisonTemporaries}
-use Rattle.sheet.specs.ReadBack.{Back, found, missing, Operands, operands, expressionBack, lastCompares, comparisonBack}
+use Rattle.sheet.specs.ReadBack.{Back, Operands, operands, expressionBack, lastCompares, comparisonBack}
 use Rattle.sheet.specs.ReadBack.{wordOperands, plainOperands}
-use Rattle.untranslate.specs.declared.node.Right.{Right}
-use Rattle.untranslate.specs.declared.node.Right.the-variants.{Nothing, Plain}
-use Rattle.untranslate.specs.declared.node.Node.{Node}
-use Rattle.untranslate.specs.declared.node.Node.the-variants.{Leaf, Over, Compare, Bad as NoNode}
-use Rattle.untranslate.specs.Internal.{Held, held, Step, went, stuck, onStep, wholly, useOf, isVariableWord}
-use Rattle.untranslate.specs.Internal.{rightWord, nodeOf, operandsRead, expressionRead, wholeRead, compareRead}
-use Rattle.untranslate.specs.Internal.{comparisonRead}
+use Rattle.untranslate_look.specs.declared.node.Right.{Right}
+use Rattle.untranslate_look.specs.declared.node.Right.the-variants.{Nothing, Plain}
+use Rattle.untranslate_look.specs.declared.node.Node.{Node}
+use Rattle.untranslate_look.specs.declared.node.Node.the-variants.{Leaf, Over, Compare, Bad as NoNode}
+use Rattle.untranslate_look.specs.Internal.{Held, held, Step, went, stuck, onStep, useOf, isVariableWord, rightWord, nodeOf}
+use Rattle.untranslate_expression.specs.Internal.{wholly, operandsRead, expressionRead, wholeRead, compareRead}
+use Rattle.untranslate_expression.specs.Internal.{comparisonRead}
 use Rattle.untranslate.specs.Internal.{usedBy, mostUsed}
 use Rattle.untranslate.proofs.Temporaries.{raised, raised-zero}
 use Rattle.untranslate.proofs.Agreement.{backward, Took, Agrees, neither, both}

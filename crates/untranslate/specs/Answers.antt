@@ -5,8 +5,8 @@ use lib.ListN.{length}
 use Rattle.sheet.specs.declared.Field.{Field}
 use Rattle.sheet.specs.Sheet.{instructions}
 use Rattle.sheet.specs.Fields.{sheetFields}
-use Rattle.sheet.specs.Memory.{fieldsFrom}
 use Rattle.sheet.specs.ReadBack.{Given, given, none}
+use Rattle.sheet_field.specs.Memory.{fieldsFrom}
 use Rattle.untranslate.specs.declared.Untranslated.{Untranslated}
 use Rattle.untranslate.specs.declared.Untranslated.the-variants.{Sheet as Read, Missing}
 

@@ -1,32 +1,25 @@
 // From the orders of an object back to the fields of the sheet that translates to them: first where each instruction
 // begins, then the instructions, the last first.
-mod expression;
-mod instruction;
-mod node;
-mod orders;
-mod output;
-mod shape;
-
-use crate::instruction::put_instruction;
-use crate::orders::Place;
-use crate::orders::is_end;
-use crate::orders::order_at;
-use crate::output::Back;
-use crate::shape::shape_at;
-use crate::shape::shape_past;
 use order::MOST_ORDERS;
 use order::MOST_VARIABLES;
 use order::Order;
+use untranslate_instruction::put_instruction;
+use untranslate_look::orders::Place;
+use untranslate_look::orders::is_end;
+use untranslate_look::orders::order_at;
+use untranslate_look::output::Back;
+use untranslate_shape::shape_at;
+use untranslate_shape::shape_past;
 ghost use mathlib.Core.Path.{_≡_};
 ghost use Prim.Native.Nat.{_≤_};
 ghost use lib.ListN.{length};
 ghost use Rattle.order.specs.Order.{ordersFrom};
 ghost use Rattle.order.specs.Limits.{mostOrders, mostVariables};
 ghost use Rattle.sheet.specs.ReadBack.{untranslate};
-ghost use Rattle.sheet.specs.Memory.{mostFields};
+ghost use Rattle.sheet_field.specs.Memory.{mostFields};
+ghost use Rattle.untranslate_look.specs.Internal.{orderAt, view};
 ghost use Rattle.untranslate.specs.Answers.{readOff, offered};
-ghost use Rattle.untranslate.specs.Internal.{orderAt, view, temporaryOf, usedBy, mostUsed, marked, startsFrom};
-ghost use Rattle.untranslate.specs.Internal.{untold, allRead};
+ghost use Rattle.untranslate.specs.Internal.{temporaryOf, usedBy, mostUsed, marked, startsFrom, untold, allRead};
 
 // The number of instructions, and the place from which the fields stand in the arrays, up to their end; or that no sheet
 // translates to the orders. The arrays then hold anything.

@@ -3,7 +3,7 @@ use mathlib.Core.Path.{_≡_, refl, sym, _∙_}
 use native.Mathlib.Omega.{arith}
 use borrow.Author.Needs.{needs}
 use Rattle.source.specs.Grammar.{isNameList}
-use Rattle.grammar.specs.Internal.{left}
+use Rattle.grammar_look.specs.Internal.{left}
 use Rattle.grammar.proofs.Statements.{names-none, names-one, names-more, names-parted}
 use Rattle.grammar.proofs.is_name_list.Statement.{statement}
 use Rattle.grammar.proofs.is_name_list.Tie as tie

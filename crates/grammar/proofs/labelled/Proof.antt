@@ -1,7 +1,7 @@
 use mathlib.Core.Path.{subst}
 use native.Mathlib.Omega.{arith}
-use Rattle.sheet.specs.Memory.{fieldsFrom}
-use Rattle.grammar.specs.Internal.{Moved}
+use Rattle.sheet_field.specs.Memory.{fieldsFrom}
+use Rattle.grammar_output.specs.Internal.{Moved}
 use Rattle.grammar.proofs.Statements.{labels-alone, no-instruction, whole-instruction, more-behind}
 use borrow.Author.Needs.{needs}
 use Rattle.grammar.proofs.labelled.Statement.{statement}

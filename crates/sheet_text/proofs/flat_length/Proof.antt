@@ -4,7 +4,7 @@ use mathlib.Core.Path.{_≡_}
 use mathlib.Core.Bool.{false}
 use native.Mathlib.Omega.{arith}
 use lib.ListN.{length}
-use Rattle.sheet.specs.Memory.{fieldsFrom}
+use Rattle.sheet_field.specs.Memory.{fieldsFrom}
 use Rattle.sheet_text.specs.Internal.{fieldsText, flatText}
 use Rattle.sheet_text.proofs.Writing.{left, count-start, count-turn, count-over}
 use Rattle.sheet_text.proofs.flat_length.Statement.{statement}

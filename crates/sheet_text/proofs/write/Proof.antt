@@ -3,7 +3,7 @@ use mathlib.Core.Path.{sym, ap, _∙_}
 use native.Mathlib.Omega.{arith}
 use Rattle.text.specs.Internal.{putAll}
 use Rattle.text.proofs.Writing.{putAll-append, write-short, write-whole}
-use Rattle.sheet.specs.Memory.{fieldsFrom}
+use Rattle.sheet_field.specs.Memory.{fieldsFrom}
 use Rattle.sheet_text.specs.Internal.{flatText}
 use Rattle.sheet_text.proofs.Flat.{flat-memory}
 use Rattle.sheet_text.proofs.write.Statement.{statement}

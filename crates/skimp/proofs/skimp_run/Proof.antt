@@ -3,7 +3,7 @@ use mathlib.Core.Path.{_≡_, refl, sym, ap, _∙_}
 use native.Mathlib.Omega.{arith}
 use lib.ListN.{getD, replicate}
 use Rattle.base.proofs.Lists.{getD-repeated}
-use Rattle.order.specs.Answers.{verdict}
+use Rattle.object_reader.specs.Answers.{verdict}
 use Rattle.skimp.proofs.Calls.{good-object, few-words, good-call, refused-call}
 use borrow.Author.Needs.{needs}
 use Rattle.skimp.proofs.skimp_run.Statement.{statement}

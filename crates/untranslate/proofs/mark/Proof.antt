@@ -1,7 +1,8 @@
 use Prim.Native.Nat.{_-_}
 use mathlib.Core.Path.{sym, ap, _∙_}
 use native.Mathlib.Omega.{arith}
-use Rattle.untranslate.specs.Internal.{orderAt, shapePast}
+use Rattle.untranslate_look.specs.Internal.{orderAt}
+use Rattle.untranslate_shape.specs.Internal.{shapePast}
 use Rattle.untranslate.proofs.Loops.{Marking, marking-start, marking-over, marking-long, marking-end, marking-bad}
 use Rattle.untranslate.proofs.Loops.{marking-turn}
 use borrow.Author.Needs.{needs}

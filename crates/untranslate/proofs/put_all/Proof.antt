@@ -1,6 +1,7 @@
 use mathlib.Core.Path.{refl, _∙_}
 use native.Mathlib.Omega.{arith}
-use Rattle.untranslate.specs.Internal.{orderAt, wordsFrom, numberIn}
+use Rattle.untranslate_look.specs.Internal.{orderAt}
+use Rattle.untranslate_instruction.specs.Internal.{wordsFrom, numberIn}
 use Rattle.untranslate.proofs.Loops.{Falling, down-stuck, down-turn, all-none, all-stuck, all-over}
 use borrow.Author.Needs.{needs}
 use Rattle.untranslate.proofs.put_all.Statement.{statement}

@@ -1,0 +1,5 @@
+pub mod Finishing
+pub mod Instructing
+pub mod Placing
+pub mod Steps
+pub mod Parts

@@ -1,0 +1,381 @@
+-- A statement's form, read off what the grammar tells of it.
+use Prim.Native.Nat.{ℕ, zero, suc, _+_, _*_, _<_, _≤_, min}
+use mathlib.Core.Bool.{Bool, true, false}
+use mathlib.Core.Path.{_≡_, refl, sym, ap, _∙_}
+use mathlib.Core.List.{List, [], _∷_, map}
+use native.Mathlib.Omega.{arith}
+use lib.ListN.{length, length-map, length-take}
+use Rattle.base.specs.Choice.{pick}
+use Rattle.base.specs.Places.{each}
+use Rattle.base.proofs.Cases.{both-yes, by-test}
+use Rattle.base.proofs.Places.{each-length}
+use Rattle.sheet.specs.declared.Field.{Field}
+use Rattle.sheet.specs.Sheet.{Instruction as SheetInstruction, Sheet}
+use Rattle.sheet.specs.Fields.{instructionFields}
+use Rattle.sheet_field.specs.Memory.{fieldsFrom}
+use Rattle.sheet_field.proofs.Stored.{fields-length}
+use Rattle.source.specs.declared.Token.{Token}
+use Rattle.source.specs.declared.Token.the-variants.{Name, Number, Quoted, Binary, Compare, Mark}
+use Rattle.source.specs.declared.Statement.{Statement}
+use Rattle.source.specs.Tokens.{Lexeme, name, token, lexed, markInteger, markBegin, markEnd, markComma, lexemes, refused as wrong}
+use Rattle.source.specs.Grammar.{Form, beginning, declaration, ending, labels, instruction, noForm, behindFirst, opens, isName, isMark, isNameList}
+use Rattle.source.specs.Grammar.{form, alone, Labelled, labelled as labelledTokens, labelledForm, labelsAt as labelsBefore, whole, instructionAt}
+use Rattle.source.specs.Grammar.{Read, read, none}
+use Rattle.source.specs.Memory.{tokensFrom, lexemeOf, lexemesFrom, held}
+use Rattle.source.specs.Program.{lookedUp, namesIn, Program, Part, nothing, declarations, instructions, inOrder, refused, statement, Outcome, onLexed}
+use Rattle.source.proofs.Stored.{lexemes-each}
+use Rattle.tokens.specs.declared.Lexed.{Lexed as Lexing}
+use Rattle.tokens.specs.declared.Lexed.the-variants.{Tokens, Refused as Wrong}
+use Rattle.tokens.specs.Answers.{lexedIn, Few as FewTokens}
+use Rattle.grammar.specs.declared.Form.{Form as Answer}
+use Rattle.grammar.specs.declared.Form.the-variants.{Begin, Declaration, End, Labels, Instruction, Nothing}
+use Rattle.grammar.specs.Answers.{Few, told, Told, begins, declares, ends, labels as labelled, instruction as instructs, nothing as noTold, fieldsOf}
+use Rattle.grammar.specs.Answers.{labelsIn}
+use Rattle.labels.specs.Answers.{labelsAt, labelHere}
+use Rattle.front_end_forms.specs.declared.Progress.{Progress}
+use Rattle.front_end_forms.specs.declared.Step.{Step}
+use Rattle.front_end_forms.specs.declared.Step.the-variants.{Refused}
+use Rattle.front_end_forms.specs.Answers.{Comes, refuses, goes, gives, NoSheet}
+use Rattle.front_end_forms.proofs.Steps.{comes-refused}
+
+-- ---- which form it is
+
+abbrev number : Told → ℕ
+number begins = 0
+number declares = 1
+number ends = 2
+number (labelled ls) = 3
+number (instructs ls fs) = 4
+number noTold = 5
+
+abbrev formNumber : Form → ℕ
+formNumber beginning = 0
+formNumber declaration = 1
+formNumber ending = 2
+formNumber (labels ls) = 3
+formNumber (instruction ls i) = 4
+formNumber noForm = 5
+
+number-same : (g : Form) → number (fieldsOf g) ≡ formNumber g
+number-same beginning = refl
+number-same declaration = refl
+number-same ending = refl
+number-same (labels ls) = refl
+number-same (instruction ls i) = refl
+number-same noForm = refl
+
+abbrev labelsTold : List ℕ → Told → List ℕ
+labelsTold d begins = d
+labelsTold d declares = d
+labelsTold d ends = d
+labelsTold d (labelled ls) = ls
+labelsTold d (instructs ls fs) = ls
+labelsTold d noTold = d
+
+abbrev fieldsTold : List Field → Told → List Field
+fieldsTold d begins = d
+fieldsTold d declares = d
+fieldsTold d ends = d
+fieldsTold d (labelled ls) = d
+fieldsTold d (instructs ls fs) = fs
+fieldsTold d noTold = d
+
+module _ {A : Type 0} where
+  other : (g : Form) {t : Told} (n : ℕ) → t ≡ fieldsOf g → number t ≡ n → (formNumber g ≡ n → ⊥) → A
+  other g n e m not-so = absurd (not-so (sym (number-same g) ∙ sym (ap number e) ∙ m))
+
+pub is-begin : (g : Form) → begins ≡ fieldsOf g → g ≡ beginning
+is-begin beginning e = refl
+is-begin declaration e = other declaration 0 e refl (λ z. absurd (omega (arith, z)))
+is-begin ending e = other ending 0 e refl (λ z. absurd (omega (arith, z)))
+is-begin (labels ls) e = other (labels ls) 0 e refl (λ z. absurd (omega (arith, z)))
+is-begin (instruction ls i) e = other (instruction ls i) 0 e refl (λ z. absurd (omega (arith, z)))
+is-begin noForm e = other noForm 0 e refl (λ z. absurd (omega (arith, z)))
+
+pub is-declaration : (g : Form) → declares ≡ fieldsOf g → g ≡ declaration
+is-declaration beginning e = other beginning 1 e refl (λ z. absurd (omega (arith, z)))
+is-declaration declaration e = refl
+is-declaration ending e = other ending 1 e refl (λ z. absurd (omega (arith, z)))
+is-declaration (labels ls) e = other (labels ls) 1 e refl (λ z. absurd (omega (arith, z)))
+is-declaration (instruction ls i) e = other (instruction ls i) 1 e refl (λ z. absurd (omega (arith, z)))
+is-declaration noForm e = other noForm 1 e refl (λ z. absurd (omega (arith, z)))
+
+pub is-end : (g : Form) → ends ≡ fieldsOf g → g ≡ ending
+is-end beginning e = other beginning 2 e refl (λ z. absurd (omega (arith, z)))
+is-end declaration e = other declaration 2 e refl (λ z. absurd (omega (arith, z)))
+is-end ending e = refl
+is-end (labels ls) e = other (labels ls) 2 e refl (λ z. absurd (omega (arith, z)))
+is-end (instruction ls i) e = other (instruction ls i) 2 e refl (λ z. absurd (omega (arith, z)))
+is-end noForm e = other noForm 2 e refl (λ z. absurd (omega (arith, z)))
+
+pub is-labels : (g : Form) (ls : List ℕ) → labelled ls ≡ fieldsOf g → g ≡ labels ls
+is-labels beginning ls e = other beginning 3 e refl (λ z. absurd (omega (arith, z)))
+is-labels declaration ls e = other declaration 3 e refl (λ z. absurd (omega (arith, z)))
+is-labels ending ls e = other ending 3 e refl (λ z. absurd (omega (arith, z)))
+is-labels (labels ms) ls e = ap labels (sym (ap (labelsTold ls) e))
+is-labels (instruction ms i) ls e = other (instruction ms i) 3 e refl (λ z. absurd (omega (arith, z)))
+is-labels noForm ls e = other noForm 3 e refl (λ z. absurd (omega (arith, z)))
+
+pub is-nothing : (g : Form) → noTold ≡ fieldsOf g → g ≡ noForm
+is-nothing beginning e = other beginning 5 e refl (λ z. absurd (omega (arith, z)))
+is-nothing declaration e = other declaration 5 e refl (λ z. absurd (omega (arith, z)))
+is-nothing ending e = other ending 5 e refl (λ z. absurd (omega (arith, z)))
+is-nothing (labels ls) e = other (labels ls) 5 e refl (λ z. absurd (omega (arith, z)))
+is-nothing (instruction ls i) e = other (instruction ls i) 5 e refl (λ z. absurd (omega (arith, z)))
+is-nothing noForm e = refl
+
+-- an instruction with these labels and fields
+pub record IsInstruction (g : Form) (ls : List ℕ) (fs : List Field) : Type 0 where
+  pub what : SheetInstruction
+  pub same : g ≡ instruction ls what
+  pub fields-same : fs ≡ instructionFields what
+
+pub is-instruction : (g : Form) (ls : List ℕ) (fs : List Field) → instructs ls fs ≡ fieldsOf g → IsInstruction g ls fs
+is-instruction beginning ls fs e = other beginning 4 e refl (λ z. absurd (omega (arith, z)))
+is-instruction declaration ls fs e = other declaration 4 e refl (λ z. absurd (omega (arith, z)))
+is-instruction ending ls fs e = other ending 4 e refl (λ z. absurd (omega (arith, z)))
+is-instruction (labels ms) ls fs e = other (labels ms) 4 e refl (λ z. absurd (omega (arith, z)))
+is-instruction (instruction ms i) ls fs e =
+    record { what = i; same = ap (λ l. instruction l i) (sym (ap (labelsTold ls) e)); fields-same = ap (fieldsTold fs) e }
+is-instruction noForm ls fs e = other noForm 4 e refl (λ z. absurd (omega (arith, z)))
+
+-- ---- the labels that the tokens carry
+
+pub labels-carried : (c j n : ℕ) (ks vs : List ℕ) → 2 * c ≤ n → labelsIn c (tokensFrom (j * 2) n ks vs) ≡ each (labelHere ks vs) j c
+unfolding labelsIn tokensFrom behindFirst each
+labels-carried zero j n ks vs h = refl
+labels-carried (suc c) j zero ks vs h = absurd (omega (arith, h))
+labels-carried (suc c) j (suc zero) ks vs h = absurd (omega (arith, h))
+labels-carried (suc c) j (suc (suc n)) ks vs h =
+    let e : suc (suc (j * 2)) ≡ suc j * 2 = omega arith in
+    ap
+    (λ l. labelHere ks vs j ∷ l)
+    (ap (λ k. labelsIn c (tokensFrom k n ks vs)) e ∙ labels-carried c (suc j) n ks vs (omega (arith, h)))
+
+-- ---- a declaration has at most half as many names as tokens
+
+unfoldable names-among : List Token → ℕ
+names-among [] = 0
+names-among (t ∷ ts) = pick (isName t) 1 0 + names-among ts
+
+one-or-none : (b : Bool) → pick b 1 0 ≤ 1
+unfolding pick
+one-or-none true = omega arith
+one-or-none false = omega arith
+
+names-few : (ms : List (List ℕ)) (xs : List Lexeme) → length (namesIn xs) ≤ names-among (map (lookedUp ms) xs)
+unfolding namesIn names-among pick
+names-few ms [] = omega arith
+names-few ms (name n ∷ xs) = let h = names-few ms xs in omega (arith, h)
+names-few ms (token t ∷ xs) = let h = names-few ms xs in omega (arith, h)
+
+-- a mark is no name
+mark-no-name : (m : ℕ) (t : Token) → isMark m t ≡ true → isName t ≡ false
+mark-no-name m (Name w) e = sym e
+mark-no-name m (Number n) e = refl
+mark-no-name m (Quoted n) e = refl
+mark-no-name m (Binary o) e = refl
+mark-no-name m (Compare r) e = refl
+mark-no-name m (Mark k) e = refl
+
+none-of-mark : (m : ℕ) (t : Token) → isMark m t ≡ true → _≡_ {A = ℕ} (pick (isName t) 1 0) 0
+unfolding pick
+none-of-mark m t e = rw (mark-no-name m t e) refl
+
+list-half : (ts : List Token) → isNameList ts ≡ true → 2 * names-among ts ≤ length ts + 1
+unfolding isNameList names-among pick
+list-half [] e = omega arith
+list-half (t ∷ []) e = let h = one-or-none (isName t) in omega (arith, h)
+list-half (t ∷ u ∷ ts) e =
+    let a = both-yes (isName t) (pick (isMark markComma u) (isNameList ts) false) e in
+    let b = both-yes (isMark markComma u) (isNameList ts) (a .1) in
+    let h = list-half ts (b .1) in
+    let x = one-or-none (isName t) in
+    let y = none-of-mark markComma u (b .0) in
+    omega (arith, h, x, y)
+
+labels-form : (ls : List ℕ) → labels ls ≡ labelledForm (labelledTokens ls [])
+unfolding labelledForm
+labels-form ls = refl
+
+whole-form : (ls : List ℕ) (t : Token) (ts : List Token) → whole ls (instructionAt (t ∷ ts)) ≡ labelledForm (labelledTokens ls (t ∷ ts))
+unfolding labelledForm
+whole-form ls t ts = refl
+
+-- a choice that is a declaration was made for one
+declared-list : (ts : List Token) → form ts ≡ declaration → (opens markInteger ts ≡ true) × (isNameList (behindFirst ts) ≡ true)
+unfolding form pick
+declared-list ts e =
+    by-test
+    (opens markBegin ts)
+    (λ t. absurd (alone-not beginning (behindFirst ts) (rw t at e) (λ z. absurd (omega (arith, z)))))
+    (λ t. by-test
+    (opens markEnd ts)
+    (λ u. absurd (alone-not ending (behindFirst ts) (rw (t, u) at e) (λ z. absurd (omega (arith, z)))))
+    (λ u. by-test
+    (opens markInteger ts)
+    (λ w. by-test
+    (isNameList (behindFirst ts))
+    (λ x. (w, x))
+    (λ x. let z : _≡_ {A = ℕ} 5 1 = ap formNumber (rw (t, u, w, x) at e) in absurd (omega arith)))
+    (λ w. absurd (labelled-not (labelsBefore ts) (rw (t, u, w) at e)))))
+  where
+    alone-not : (f : Form) (l : List Token) → alone f l ≡ declaration → (formNumber f ≡ 1 → ⊥) → ⊥
+    alone-not f [] z not-so = not-so (ap formNumber z)
+    alone-not f (x ∷ l) z not-so = let n : _≡_ {A = ℕ} 5 1 = ap formNumber z in absurd (omega arith)
+
+    whole-not : (ls : List ℕ) (r : Read SheetInstruction) → whole ls r ≡ declaration → ⊥
+    whole-not ls none z = let n : _≡_ {A = ℕ} 5 1 = ap formNumber z in absurd (omega arith)
+    whole-not ls (read i []) z = let n : _≡_ {A = ℕ} 4 1 = ap formNumber z in absurd (omega arith)
+    whole-not ls (read i (x ∷ l)) z = let n : _≡_ {A = ℕ} 5 1 = ap formNumber z in absurd (omega arith)
+
+    labelled-not : (l : Labelled) → labelledForm l ≡ declaration → ⊥
+    labelled-not (labelledTokens ls []) z = let n : _≡_ {A = ℕ} 3 1 = ap formNumber (labels-form ls ∙ z) in absurd (omega arith)
+    labelled-not (labelledTokens ls (x ∷ l)) z = whole-not ls (instructionAt (x ∷ l)) (whole-form ls x l ∙ z)
+
+mark-first : (m : ℕ) (ts : List Token) → opens m ts ≡ true → names-among ts ≡ names-among (behindFirst ts)
+unfolding opens behindFirst names-among pick
+mark-first m [] e = refl
+mark-first m (t ∷ ts) e = rw (mark-no-name m t e) (let z : 0 + names-among ts ≡ names-among ts = omega arith in z)
+
+behind-length : (m : ℕ) (ts : List Token) → opens m ts ≡ true → length (behindFirst ts) + 1 ≡ length ts
+unfolding opens behindFirst pick
+behind-length m [] e = let z : _≡_ {A = ℕ} 0 1 = ap (λ b. pick {A = ℕ} b 1 0) e in absurd (omega arith)
+behind-length m (t ∷ ts) e = omega arith
+
+pub few-declared : (ms : List (List ℕ)) (xs : List Lexeme) → length xs ≤ 256 → form (map (lookedUp ms) xs) ≡ declaration → length (namesIn xs) ≤ 128
+few-declared ms xs h e =
+    let d = declared-list (map (lookedUp ms) xs) e in
+    let a = names-few ms xs in
+    let b = mark-first markInteger (map (lookedUp ms) xs) (d .0) in
+    let c = list-half (behindFirst (map (lookedUp ms) xs)) (d .1) in
+    let f = behind-length markInteger (map (lookedUp ms) xs) (d .0) in
+    let g : length (map (lookedUp ms) xs) ≡ length xs = length-map xs (lookedUp ms) in
+    omega (arith, a, b, c, f, g, h)
+
+-- ---- a step with a wider statement
+
+no-sheet-yet : {P : Program → Progress → Type 0} {G : Sheet → Type 0} {r : Step} {o : Outcome} → Comes P NoSheet r o → Comes P G r o
+no-sheet-yet (refuses n k) = refuses n k
+no-sheet-yet (goes q p h) = goes q p h
+no-sheet-yet (gives s g) = absurd g
+
+goes-nowhere : {P : Program → Progress → Type 0} {G : Sheet → Type 0} {r : Step} {o : Outcome} → Comes (λ q n. ⊥) G r o → Comes P G r o
+goes-nowhere (refuses n k) = refuses n k
+goes-nowhere (goes q p h) = absurd h
+goes-nowhere (gives s g) = gives s g
+
+-- ---- a statement by its form
+
+no-form : (q : Program) (k : ℕ) (xs : List Lexeme) (t : Part) → inOrder q t k xs noForm ≡ refused 7 k
+no-form q k xs nothing = refl
+no-form q k xs declarations = refl
+no-form q k xs instructions = refl
+
+module _ (q : Program) (k : ℕ) (xs : List Lexeme) (g : Form) {P : Program → Progress → Type 0} {G : Sheet → Type 0} where
+  pub on-nothing : noTold ≡ fieldsOf g → Comes P G (Refused 7 k) (inOrder q (q .part) k xs g)
+  on-nothing e = rw (is-nothing g e) (comes-refused 7 k (no-form q k xs (q .part)))
+
+  module _ {r : Step} where
+    pub on-begin : begins ≡ fieldsOf g → Comes P NoSheet r (inOrder q (q .part) k xs beginning) → Comes P G r (inOrder q (q .part) k xs g)
+    on-begin e one = rw (is-begin g e) (no-sheet-yet one)
+
+    pub on-declaration : declares ≡ fieldsOf g → Comes P NoSheet r (inOrder q (q .part) k xs declaration) → Comes P G r (inOrder q (q .part) k xs g)
+    on-declaration e one = rw (is-declaration g e) (no-sheet-yet one)
+
+    pub on-end : ends ≡ fieldsOf g → Comes (λ o n. ⊥) G r (inOrder q (q .part) k xs ending) → Comes P G r (inOrder q (q .part) k xs g)
+    on-end e one = rw (is-end g e) (goes-nowhere one)
+
+    pub on-labels : (new : List ℕ) → labelled new ≡ fieldsOf g → Comes P NoSheet r (inOrder q (q .part) k xs (labels new)) → Comes P G r (inOrder q (q .part) k xs g)
+    on-labels new e one = rw (is-labels g new e) (no-sheet-yet one)
+
+    pub on-instruction : (new : List ℕ) (fs : List Field) → instructs new fs ≡ fieldsOf g
+        → ((i : SheetInstruction) → fs ≡ instructionFields i → Comes P NoSheet r (inOrder q (q .part) k xs (instruction new i))) → Comes P G r (inOrder q (q .part) k xs g)
+    on-instruction new fs e one =
+        let i = is-instruction g new fs e in
+        rw (i .same) (no-sheet-yet (one (i .what) (i .fields-same)))
+
+-- ---- what the grammar told, by the case of its answer
+
+module _ (n : ℕ) (ks vs own carried : List ℕ) {f : Answer} (g : Form) (e : told (tokensFrom 0 n ks vs) f own carried ≡ fieldsOf g) where
+  pub told-begin : f ≡ Begin → begins ≡ fieldsOf g
+  told-begin z = rw z at e
+
+  pub told-declaration : f ≡ Declaration → declares ≡ fieldsOf g
+  told-declaration z = rw z at e
+
+  pub told-end : f ≡ End → ends ≡ fieldsOf g
+  told-end z = rw z at e
+
+  pub told-nothing : f ≡ Nothing → noTold ≡ fieldsOf g
+  told-nothing z = rw z at e
+
+module _ (n : ℕ) (ks vs own carried : List ℕ) {f : Answer} (g : Form) (e : told (tokensFrom 0 n ks vs) f own carried ≡ fieldsOf g) (few : Few n f) where
+  pub told-labels : (c : ℕ) → f ≡ Labels c → labelled (labelsAt c ks vs) ≡ fieldsOf g
+  told-labels c z =
+      let h : 2 * c ≤ n = rw z at few in
+      ap labelled (sym (labels-carried c 0 n ks vs h)) ∙ (rw z at e)
+
+  pub told-instruction : (c m : ℕ) → f ≡ Instruction c m → instructs (labelsAt c ks vs) (fieldsFrom 0 m own carried) ≡ fieldsOf g
+  told-instruction c m z =
+      let h : (2 * c ≤ n) × (m ≤ n) = rw z at few in
+      ap (λ ls. instructs ls (fieldsFrom 0 m own carried)) (sym (labels-carried c 0 n ks vs (h .0))) ∙ (rw z at e)
+
+module _ (n : ℕ) {f : Answer} (few : Few n f) (short : n ≤ 256) where
+  pub few-labels-told : (ks vs : List ℕ) (c : ℕ) → f ≡ Labels c → length (labelsAt c ks vs) ≤ 128
+  few-labels-told ks vs c z =
+      let h : 2 * c ≤ n = rw z at few in
+      rw (each-length (labelHere ks vs) 0 c) (omega (arith, h, short))
+
+  module _ (c m : ℕ) (z : f ≡ Instruction c m) where
+    pub few-labels-before : (ks vs : List ℕ) → length (labelsAt c ks vs) ≤ 128
+    few-labels-before ks vs =
+        let h : (2 * c ≤ n) × (m ≤ n) = rw z at few in
+        rw (each-length (labelHere ks vs) 0 c) (omega (arith, h .0, short))
+
+    pub few-fields-told : m ≤ 256
+    few-fields-told = let h : (2 * c ≤ n) × (m ≤ n) = rw z at few in omega (arith, h .1, short)
+
+    pub short-fields : (ks vs : List ℕ) → length (fieldsFrom 0 m ks vs) ≤ 256
+    short-fields ks vs = rw (fields-length 0 m ks vs) few-fields-told
+
+-- ---- a statement by its tokens
+
+pub lexemes-count : (n : ℕ) (cells ks vs : List ℕ) → length (lexemesFrom 0 n cells ks vs) ≡ n
+lexemes-count n cells ks vs = rw (lexemes-each 0 n cells ks vs) (each-length (λ i. lexemeOf cells _ _) 0 n)
+
+module _ (q : Program) (k n : ℕ) (cells ks vs ws : List ℕ) (short : n ≤ 256) (same : tokensFrom 0 n ks ws ≡ map (lookedUp (q .names)) (lexemesFrom 0 n cells ks vs)) where
+  pub few-names-told : form (tokensFrom 0 n ks ws) ≡ declaration → length (namesIn (lexemesFrom 0 n cells ks vs)) ≤ 128
+  few-names-told e =
+      few-declared
+      (q .names)
+      (lexemesFrom 0 n cells ks vs)
+      (rw (lexemes-count n cells ks vs) short)
+      (ap form (sym same) ∙ e)
+
+  pub by-tokens : {P : Program → Progress → Type 0} {G : Sheet → Type 0} {r : Step}
+      → Comes P G r (inOrder q (q .part) k (lexemesFrom 0 n cells ks vs) (form (tokensFrom 0 n ks ws)))
+      → Comes P G r (onLexed q k (lexed (lexemesFrom 0 n cells ks vs)))
+  by-tokens one = rw (← same) one
+
+pub looked-up : {ms : List (List ℕ)} (q : Program) (n : ℕ) (cells ks vs : List ℕ) {ts : List Token}
+    → ts ≡ map (lookedUp ms) (lexemesFrom 0 n cells ks vs) → ms ≡ q .names → ts ≡ map (lookedUp (q .names)) (lexemesFrom 0 n cells ks vs)
+looked-up q n cells ks vs e named = e ∙ ap (λ ms. map (lookedUp ms) (lexemesFrom 0 n cells ks vs)) named
+
+-- ---- a statement by its cells
+
+module _ (s : Statement) where
+  pub few-told : {r : Lexing} (n : ℕ) → FewTokens s r → r ≡ Tokens n → s .length < 256 → n ≤ 256
+  few-told {r} n few e h =
+      let g : n ≤ length (held s) = rw e at few in
+      let l : length (held s) ≡ min (s .length) (length (s .cells)) = length-take (s .length) (s .cells) in
+      omega (arith, g, l, h)
+
+  module _ (q : Program) (k : ℕ) (r : Lexing) (ks vs : List ℕ) (e : lexedIn (held s) r ks vs ≡ lexemes (held s)) {P : Program → Progress → Type 0} {G : Sheet → Type 0} where
+    pub by-cells : (n : ℕ) {o : Step} → r ≡ Tokens n → Comes P G o (onLexed q k (lexed (lexemesFrom 0 n (held s) ks vs))) → Comes P G o (statement q k (held s))
+    unfolding statement
+    by-cells n z one = let t : lexed (lexemesFrom 0 n (held s) ks vs) ≡ lexemes (held s) = rw z at e in rw (← t) one
+
+    pub by-refusal : (n : ℕ) → r ≡ Wrong n → Comes P G (Refused n k) (statement q k (held s))
+    unfolding statement
+    by-refusal n z = let t : wrong n ≡ lexemes (held s) = rw z at e in comes-refused n k (ap (onLexed q k) (sym t))

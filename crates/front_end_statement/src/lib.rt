@@ -1,0 +1,142 @@
+// One statement of a program: its tokens, its names looked up, its form, and what that does.
+use base::part;
+use front_end_forms::Progress;
+use front_end_forms::Step;
+use front_end_forms::begin;
+use front_end_forms::declaration;
+use front_end_forms::finish;
+use front_end_forms::instruction;
+use front_end_forms::label;
+use grammar::Form;
+use grammar::form_of;
+use names::look_up;
+use source::MOST_CELLS;
+use source::Statement;
+use tokens::Lexed;
+use tokens::tokens;
+ghost use Prim.Native.Nat.{_≤_};
+ghost use Rattle.source.specs.Limits.{mostCells};
+ghost use Rattle.source.specs.Memory.{held};
+ghost use Rattle.grammar.specs.Answers.{Few};
+ghost use Rattle.front_end_forms.specs.Answers.{FewCounts};
+ghost use Rattle.front_end_statement.specs.Answers.{OnStatement};
+ghost use Rattle.front_end_statement.specs.Internal.{Dispatches, OnTokens};
+
+// A statement by its form. `own` and `carried` are the fields of its instruction.
+fn dispatch(
+    form: Form,
+    p: Progress,
+    k: u32,
+    cells: &[u8],
+    tokens: &[u8],
+    spelled: &[u32],
+    words: &[u32],
+    n: usize,
+    own: &[u8],
+    carried: &[u32],
+    names: &mut [u8],
+    labels: &mut [u32],
+    kinds: &mut [u8],
+    values: &mut [u32],
+) -> Step
+    requires { ⌜ FewCounts p × Few n form × (n ≤ mostCells) ⌝ }
+    ensures { λ r. ⌜ Dispatches form p k n (now (cells .entry)) (now (tokens .entry)) (now (spelled .entry)) (now (words .entry)) (now (own .entry)) (now (carried .entry)) (now (names .entry)) (now (labels .entry)) (now (kinds .entry)) (now (values .entry)) r (now (names .exit)) (now (labels .exit)) (now (kinds .exit)) (now (values .exit)) ⌝ }
+{
+    match form {
+        Form::Begin => begin(p, k),
+        Form::Declaration => declaration(p, k, cells, tokens, spelled, n, names),
+        Form::End => finish(p, k, labels, kinds, values),
+        Form::Labels(c) => label(p, k, tokens, words, c, labels),
+        Form::Instruction(c, m) => {
+            instruction(
+                p,
+                k,
+                tokens,
+                words,
+                c,
+                own,
+                carried,
+                m,
+                labels,
+                kinds,
+                values,
+            )
+        }
+        Form::Nothing => Step::Refused(7, k),
+    }
+}
+
+// A statement by its tokens, whose names are looked up first.
+fn on_tokens(
+    p: Progress,
+    k: u32,
+    cells: &[u8],
+    tokens: &[u8],
+    spelled: &[u32],
+    n: usize,
+    names: &mut [u8],
+    labels: &mut [u32],
+    kinds: &mut [u8],
+    values: &mut [u32],
+) -> Step
+    requires { ⌜ FewCounts p × (n ≤ mostCells) ⌝ }
+    ensures { λ r. ⌜ OnTokens p k n (now (cells .entry)) (now (tokens .entry)) (now (spelled .entry)) (now (names .entry)) (now (labels .entry)) (now (kinds .entry)) (now (values .entry)) r (now (names .exit)) (now (labels .exit)) (now (kinds .exit)) (now (values .exit)) ⌝ }
+{
+    let mut words = [0u32; MOST_CELLS];
+    look_up(cells, tokens, spelled, n, names, p.names, &mut words);
+    let mut own = [0u8; MOST_CELLS];
+    let mut carried = [0u32; MOST_CELLS];
+    let form = form_of(tokens, &words, n, &mut own, &mut carried);
+    dispatch(
+        form,
+        p,
+        k,
+        cells,
+        tokens,
+        spelled,
+        &words,
+        n,
+        &own,
+        &carried,
+        names,
+        labels,
+        kinds,
+        values,
+    )
+}
+
+// A statement, number k.
+pub fn statement(
+    s: Statement,
+    p: Progress,
+    k: u32,
+    names: &mut [u8],
+    labels: &mut [u32],
+    kinds: &mut [u8],
+    values: &mut [u32],
+) -> Step
+    requires { ⌜ FewCounts p ⌝ }
+    ensures { λ r. ⌜ OnStatement p k (s .length) (held s) (now (names .entry)) (now (labels .entry)) (now (kinds .entry)) (now (values .entry)) r (now (names .exit)) (now (labels .exit)) (now (kinds .exit)) (now (values .exit)) ⌝ }
+{
+    let length = s.length;
+    if MOST_CELLS <= length {
+        return Step::Refused(4, k);
+    }
+    let mut found = [0u8; MOST_CELLS];
+    let mut spelled = [0u32; MOST_CELLS];
+    match tokens(s, &mut found, &mut spelled) {
+        Lexed::Tokens(n) => on_tokens(
+            p,
+            k,
+            part(&s.cells, 0, length),
+            &found,
+            &spelled,
+            n,
+            names,
+            labels,
+            kinds,
+            values,
+        ),
+        Lexed::Refused(e) => Step::Refused(e, k),
+    }
+}

@@ -1,0 +1,4 @@
+pub mod Expressions
+pub mod Linking
+pub mod Operands
+pub mod Following

@@ -1,0 +1,50 @@
+-- What the functions do with fields and places. A reader of the promises needs none of it.
+use Prim.Native.Nat.{ℕ, zero, suc, _+_, _<_, _≤_}
+use mathlib.Core.List.{List, _∷_, _++_}
+use lib.Dec.{eqb}
+use lib.ListN.{length, getD, set as stored, take, drop}
+use Rattle.base.specs.Choice.{pick}
+use Rattle.sheet.specs.declared.Operator.{Operator}
+use Rattle.sheet.specs.declared.Field.{Field}
+use Rattle.source.specs.Grammar.{level}
+use Rattle.grammar_output.specs.declared.Step.{Step}
+use Rattle.grammar_output.specs.declared.Step.the-variants.{At, Missing}
+use Rattle.grammar_output.specs.declared.Places.{Places}
+
+-- there is a place for one more field
+pub record Room (out : ℕ) (ks vs : List ℕ) : Type 0 where
+  pub kinds-room : out < length ks
+  pub values-room : out < length vs
+
+-- k places from p on, each with what stood before it; the first with x
+unfoldable pub shifted : ℕ → ℕ → ℕ → List ℕ → List ℕ
+shifted zero p x l = l
+shifted (suc k) p x l = shifted k (suc p) (getD l p 0) (stored l p x)
+
+unfoldable pub insertAt : ℕ → Field → List Field → List Field
+insertAt p f fs = take p fs ++ f ∷ drop p fs
+
+-- the tokens from place `at` on are read, of n, and the fields are written from place `out` on
+pub record Ready (n at out : ℕ) (ks vs : List ℕ) : Type 0 where
+  pub short : n ≤ 256
+  pub inside : at ≤ n
+  pub fewer : out ≤ at
+  pub kinds-room : n ≤ length ks
+  pub values-room : n ≤ length vs
+
+-- at least d tokens were read, and no more fields written than tokens read
+abbrev pub Moved : ℕ → ℕ → ℕ → ℕ → Step → Type 0
+Moved d n at out (At a o) = (at + d ≤ a) × (a ≤ n) × (out ≤ o) × (o + at ≤ a + out)
+Moved d n at out Missing = Unit {0}
+
+-- an operator goes to the place where the left operand of its level starts
+abbrev pub placeFor : Places → Operator → ℕ
+placeFor p o = pick (eqb (level o) 1) (p .low) (pick (eqb (level o) 2) (p .middle) (p .high))
+
+-- and the operands of the higher levels start behind it, at the next place that is free
+abbrev pub placesAfter : Places → Operator → ℕ → Places
+placesAfter p o free =
+    pick
+    (eqb (level o) 1)
+    (record { low = p .low; middle = free; high = free })
+    (pick (eqb (level o) 2) (record { low = p .low; middle = p .middle; high = free }) p)

@@ -1,0 +1,192 @@
+// One order of a program, carried out. A program is two arrays, the numbers of its orders (`number` of order's
+// specs/Order.antt) and their operands; a place outside them, and a number that no order has, count as STOP.
+use base::byte_at;
+use base::word_at;
+use machine::OUTPUT_FULL;
+use machine::Registers;
+use machine::STOPPED;
+use machine_effect::advance;
+use machine_effect::branch;
+use machine_effect::end_with;
+use machine_effect::go_to;
+use machine_effect::on_number;
+use machine_effect::on_word;
+use machine_effect::send;
+use machine_effect::store;
+use order::Operation;
+use word::Answer;
+use word::Relation;
+ghost use Prim.Native.Nat.{_/_, _≤_};
+ghost use mathlib.Core.Path.{_≡_};
+ghost use lib.Dec.{ltb};
+ghost use lib.ListN.{length, getD};
+ghost use Rattle.base.specs.Choice.{pick};
+ghost use Rattle.word.specs.Answers.{outcome};
+ghost use Rattle.order.specs.Order.{orderOf, ordersOf};
+ghost use Rattle.machine.specs.Machine.{machine, nextEffect};
+ghost use Rattle.machine.specs.Internal.{stepped, faultOf};
+ghost use Rattle.machine_step.specs.Internal.{faultIn, carried};
+
+// ---- reading the arrays
+
+struct Fetched {
+    number: u8,
+    operand: u32,
+}
+
+fn least(a: usize, b: usize) -> usize
+    ensures { λ r. ⌜ (r ≤ a) × (r ≤ b) ⌝ }
+{
+    if a < b { a } else { b }
+}
+
+// One test serves both arrays in a run: the lesser length does not change there.
+fn fetch(numbers: &[u8], operands: &[u32], place: usize) -> Fetched
+    ensures { λ f. ⌜ (f .number ≡ getD (now (numbers .entry)) place 0) × (f .operand ≡ getD (now (operands .entry)) place 0) ⌝ }
+{
+    if place < least(numbers.len(), operands.len()) {
+        return Fetched {
+            number: numbers[place],
+            operand: operands[place],
+        };
+    }
+    Fetched {
+        number: byte_at(numbers, place),
+        operand: word_at(operands, place),
+    }
+}
+
+// ---- an order carried out
+
+// "stepping decides over the order's number, a case per order"
+fn carry_out(
+    number: u8,
+    v: u32,
+    behind: usize,
+    words: &mut [u32],
+    output: &mut [u8],
+    r: Registers,
+) -> Registers
+    ensures { λ s. ⌜ machine s (now (words .exit)) (now (output .exit))
+        ≡ carried (orderOf number v) behind (machine r (now (words .entry)) (now (output .entry))) ⌝ }
+{
+    match number {
+        0 => end_with(STOPPED, r),
+        1 => send(output, behind, r),
+        2 => advance(word::neg(r.acc), behind, r),
+        3 => advance(word::bit_not(r.acc), behind, r),
+        4 => go_to(v, r),
+        5 => branch(Relation::Equal, v, behind, r),
+        6 => branch(Relation::Unequal, v, behind, r),
+        7 => branch(Relation::Less, v, behind, r),
+        8 => branch(Relation::AtMost, v, behind, r),
+        9 => branch(Relation::Greater, v, behind, r),
+        10 => branch(Relation::AtLeast, v, behind, r),
+        11 => {
+            store(words, v, r.acc);
+            advance(r.acc, behind, r)
+        }
+        12 => on_word(Operation::Load, words, v, behind, r),
+        13 => on_word(Operation::Add, words, v, behind, r),
+        14 => on_word(Operation::Sub, words, v, behind, r),
+        15 => on_word(Operation::Mlt, words, v, behind, r),
+        16 => on_word(Operation::Div, words, v, behind, r),
+        17 => on_word(Operation::Exp, words, v, behind, r),
+        18 => on_word(Operation::Shl, words, v, behind, r),
+        19 => on_word(Operation::Shr, words, v, behind, r),
+        20 => on_word(Operation::And, words, v, behind, r),
+        21 => on_word(Operation::Or, words, v, behind, r),
+        22 => on_word(Operation::Xor, words, v, behind, r),
+        23 => on_word(Operation::Cmp, words, v, behind, r),
+        24 => on_number(Operation::Load, v, behind, r),
+        25 => on_number(Operation::Add, v, behind, r),
+        26 => on_number(Operation::Sub, v, behind, r),
+        27 => on_number(Operation::Mlt, v, behind, r),
+        28 => on_number(Operation::Div, v, behind, r),
+        29 => on_number(Operation::Exp, v, behind, r),
+        30 => on_number(Operation::Shl, v, behind, r),
+        31 => on_number(Operation::Shr, v, behind, r),
+        32 => on_number(Operation::And, v, behind, r),
+        33 => on_number(Operation::Or, v, behind, r),
+        34 => on_number(Operation::Xor, v, behind, r),
+        35 => on_number(Operation::Cmp, v, behind, r),
+        _ => end_with(STOPPED, r),
+    }
+}
+
+// One order: "a faulting order .. changes nothing but the ending". The place behind may wrap: at the last place that there
+// can be stands no order but STOP, which does not use it.
+pub fn step(
+    numbers: &[u8],
+    operands: &[u32],
+    words: &mut [u32],
+    output: &mut [u8],
+    r: Registers,
+) -> Registers
+    ensures { λ s. ⌜ machine s (now (words .exit)) (now (output .exit))
+        ≡ stepped
+        (nextEffect (ordersOf (now (numbers .entry)) (now (operands .entry))) (machine r (now (words .entry)) (now (output .entry))))
+        (machine r (now (words .entry)) (now (output .entry))) ⌝ }
+{
+    let place = r.next;
+    let order = fetch(numbers, operands, place);
+    carry_out(
+        order.number,
+        order.operand,
+        std::num::wrapping_add_usize(place, 1),
+        words,
+        output,
+        r,
+    )
+}
+
+// ---- a fault met with no budget left
+
+fn fault_of(answer: Answer) -> u32
+    ensures { λ n. ⌜ n ≡ faultIn (outcome answer) ⌝ }
+{
+    match answer {
+        Answer::Value(_) => 0,
+        Answer::ZeroDivisor => 1,
+        Answer::NegativeExponent => 2,
+        Answer::ShiftCount => 3,
+    }
+}
+
+fn full(output: &[u8], r: Registers) -> u32
+    ensures { λ n. ⌜ n ≡ pick (ltb (r .sent) (length (now (output .entry)) / 4)) 0 4 ⌝ }
+{
+    if r.sent < (output.len() / 4) as u64 {
+        return 0;
+    }
+    OUTPUT_FULL
+}
+
+// The fault that the next order meets, or 0, without carrying it out: no other order than these can fault.
+pub fn fault_ahead(
+    numbers: &[u8],
+    operands: &[u32],
+    words: &[u32],
+    output: &[u8],
+    r: Registers,
+) -> u32
+    ensures { λ n. ⌜ n ≡ faultOf
+        (nextEffect (ordersOf (now (numbers .entry)) (now (operands .entry))) (machine r (now (words .entry)) (now (output .entry)))) ⌝ }
+{
+    let order = fetch(numbers, operands, r.next);
+    let number = order.number;
+    let v = order.operand;
+    let a = r.acc;
+    match number {
+        1 => full(output, r),
+        16 => fault_of(word::div(a, word_at(words, v as usize))),
+        17 => fault_of(word::pow(a, word_at(words, v as usize))),
+        18 => fault_of(word::shl(a, word_at(words, v as usize))),
+        19 => fault_of(word::shr(a, word_at(words, v as usize))),
+        28 => fault_of(word::div(a, v)),
+        29 => fault_of(word::pow(a, v)),
+        30 => fault_of(word::shl(a, v)),
+        31 => fault_of(word::shr(a, v)),
+        _ => 0,
+    }
+}

@@ -1,0 +1,2 @@
+pub mod NameTable
+pub mod NameTurns

@@ -1,0 +1,151 @@
+// The names of the variables in memory: name i has the 256 bytes from 256 i on, the last of them its length.
+use base::part;
+use source::TABLE_ROWS;
+ghost use mathlib.Core.Path.{_≡_};
+ghost use Prim.Native.Nat.{_≤_};
+ghost use mathlib.Core.List.{[], _∷_, map};
+ghost use lib.ListN.{length};
+ghost use Rattle.source.specs.Program.{sameName, wordFrom, wordOf, lookedUp, namesIn};
+ghost use Rattle.source.specs.Memory.{tokenOf, lexemeOf, tokensFrom, lexemesFrom};
+ghost use Rattle.names.specs.Answers.{namesOf, DeclaresAll};
+ghost use Rattle.names.specs.Internal.{stored};
+
+// How many names there are now, or that one of them cannot be declared.
+pub enum Declared {
+    Names(u8),
+    Refused,
+}
+
+// Whether two names are the same.
+fn same_name(a: &[u8], b: &[u8]) -> bool
+    ensures { λ r. ⌜ r ≡ sameName (now (a .entry)) (now (b .entry)) ⌝ }
+{
+    if a.len() != b.len() {
+        return false;
+    }
+    let mut i = 0;
+    while i < a.len() {
+        if a[i] != b[i] {
+            return false;
+        }
+        i += 1;
+    }
+    true
+}
+
+// The word of a name among the v variables, or 0.
+fn find(names: &[u8], v: u8, name: &[u8]) -> u32
+    ensures { λ r. ⌜ r ≡ wordFrom 2 (namesOf v (now (names .entry))) (now (name .entry)) ⌝ }
+{
+    let mut i: u8 = 0;
+    while i < v {
+        let slot = i as usize * 256;
+        let count = base::byte_at(names, slot + 255) as usize % 256;
+        if same_name(part(names, slot, count), name) {
+            return i as u32 + 2;
+        }
+        i += 1;
+    }
+    0
+}
+
+// The word of any name: 1 for SEND, 0 where it is unknown.
+fn word_of(names: &[u8], v: u8, name: &[u8]) -> u32
+    ensures { λ r. ⌜ r ≡ wordOf (namesOf v (now (names .entry))) (now (name .entry)) ⌝ }
+{
+    if same_name(b"SEND", name) {
+        return 1;
+    }
+    find(names, v, name)
+}
+
+// What a token carries once its name is looked up. A name carries its first cell's place, times 256, and its length.
+fn seen(cells: &[u8], kind: u8, value: u32, names: &[u8], v: u8) -> u32
+    ensures { λ r. ⌜ tokenOf kind r ≡ lookedUp (namesOf v (now (names .entry))) (lexemeOf (now (cells .entry)) kind value) ⌝ }
+{
+    if kind != 0 {
+        return value;
+    }
+    let name = part(cells, value as usize / 256, value as usize % 256);
+    word_of(names, v, name)
+}
+
+// Looks the names of n tokens up: `words` becomes what they carry then.
+pub fn look_up(
+    cells: &[u8],
+    kinds: &[u8],
+    values: &[u32],
+    n: usize,
+    names: &[u8],
+    v: u8,
+    words: &mut [u32],
+)
+    ensures seen { λ _. ⌜ (n ≤ length (now (words .entry))
+        → tokensFrom 0 n (now (kinds .entry)) (now (words .exit))
+        ≡ map (lookedUp (namesOf v (now (names .entry)))) (lexemesFrom 0 n (now (cells .entry)) (now (kinds .entry)) (now (values .entry)))) ⌝ }
+    ensures kept { λ _. ⌜ length (now (words .exit)) ≡ length (now (words .entry)) ⌝ }
+{
+    let mut i = 0;
+    while i < n {
+        let kind = base::byte_at(kinds, i);
+        let value = base::word_at(values, i);
+        base::put_word(words, i, seen(cells, kind, value, names, v));
+        i += 1;
+    }
+}
+
+// Puts a name behind v others.
+fn store(names: &mut [u8], v: u8, name: &[u8])
+    ensures { λ _. ⌜ now (names .exit) ≡ stored (now (names .entry)) v (now (name .entry)) ⌝ }
+{
+    let slot = v as usize * 256;
+    base::put_byte(names, slot + 255, (name.len() % 256) as u8);
+    let mut i = 0;
+    while i < name.len() {
+        base::put_byte(names, slot + i, name[i]);
+        i += 1;
+    }
+}
+
+// Declares the name that a token is, if it is one, behind v others.
+fn declare_one(cells: &[u8], kind: u8, value: u32, names: &mut [u8], v: u8) -> Declared
+    ensures { λ r. ⌜ (DeclaresAll (now (names .entry)) v (namesIn (lexemeOf (now (cells .entry)) kind value ∷ [])) r (now (names .exit))) ⌝ }
+{
+    if kind != 0 {
+        return Declared::Names(v);
+    }
+    let name = part(cells, value as usize / 256, value as usize % 256);
+    if word_of(names, v, name) != 0 {
+        return Declared::Refused;
+    }
+    if TABLE_ROWS <= v as u32 {
+        return Declared::Refused;
+    }
+    store(names, v, name);
+    Declared::Names(v + 1)
+}
+
+// Declares the names among n tokens behind v others.
+pub fn declare(
+    cells: &[u8],
+    kinds: &[u8],
+    values: &[u32],
+    n: usize,
+    names: &mut [u8],
+    v: u8,
+) -> Declared
+    ensures { λ r. ⌜ (DeclaresAll (now (names .entry)) v (namesIn (lexemesFrom 0 n (now (cells .entry)) (now (kinds .entry)) (now (values .entry)))) r (now (names .exit))) ⌝ }
+{
+    let mut i = 0;
+    let mut count = v;
+    while i < n {
+        let kind = base::byte_at(kinds, i);
+        let value = base::word_at(values, i);
+        let Declared::Names(c) = declare_one(cells, kind, value, names, count) else {
+            return Declared::Refused;
+        };
+        count = c;
+        i += 1;
+    }
+    Declared::Names(count)
+}

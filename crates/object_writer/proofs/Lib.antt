@@ -1,0 +1,2 @@
+pub mod WriteAgain
+pub mod Writing

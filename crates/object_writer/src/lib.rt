@@ -1,0 +1,87 @@
+// The text of an object, written into a lent buffer.
+use order_record::put_record;
+use order_record::record_length;
+use text::write::decimal_length;
+use text::write::put_byte;
+use text::write::put_decimal;
+use text::write::put_fixed;
+ghost use mathlib.Core.Path.{_≡_};
+ghost use Prim.Native.Nat.{_≤_};
+ghost use lib.ListN.{length};
+ghost use Rattle.text.specs.Buffer.{filledWith};
+ghost use Rattle.text.specs.Internal.{placed, putAll};
+ghost use Rattle.order.specs.Order.{ordersFrom};
+ghost use Rattle.order.specs.Object.{recordsText, headerText, text};
+ghost use Rattle.object_writer.specs.Answers.{written, replyFor};
+
+// What became of a text: its length, or that the buffer is shorter than it.
+pub enum Written {
+    Whole(usize),
+    Short,
+}
+
+// The header: V, T and the number of orders.
+fn put_header(buffer: &mut [u8], at: usize, v: u32, t: u32, n: u32) -> usize
+    ensures { λ r. ⌜ placed r (now (buffer .exit)) ≡ putAll (headerText v t n) (placed at (now (buffer .entry))) ⌝ }
+{
+    let a = put_fixed(buffer, at, b"BOX\t");
+    let b = put_decimal(buffer, a, v);
+    let c = put_byte(buffer, b, 9);
+    let d = put_decimal(buffer, c, t);
+    let e = put_byte(buffer, d, 9);
+    let f = put_decimal(buffer, e, n);
+    put_byte(buffer, f, 10)
+}
+
+// The length of the header, with a bound by which no sum of lengths overflows.
+fn header_length(v: u32, t: u32, n: u32) -> usize
+    ensures exact { λ r. ⌜ r ≡ length (headerText v t n) ⌝ }
+    ensures few { λ r. ⌜ r ≤ 37 ⌝ }
+{
+    decimal_length(v) + decimal_length(t) + decimal_length(n) + 7
+}
+
+// The length of the text that `write` writes.
+pub fn text_length(numbers: &[u8], operands: &[u32], v: u32, t: u32, n: u32) -> usize
+    ensures { λ r. ⌜ r ≡ length (text v t (ordersFrom 0 n (now (numbers .entry)) (now (operands .entry)))) ⌝ }
+{
+    let mut total = header_length(v, t, n);
+    let mut i: u32 = 0;
+    while i < n {
+        let k = base::byte_at(numbers, i as usize);
+        let x = base::word_at(operands, i as usize);
+        total += record_length(k, x);
+        i += 1;
+    }
+    total
+}
+
+// The records of the first n orders.
+fn put_records(buffer: &mut [u8], at: usize, numbers: &[u8], operands: &[u32], n: u32) -> usize
+    ensures { λ r. ⌜ placed r (now (buffer .exit)) ≡ putAll (recordsText (ordersFrom 0 n (now (numbers .entry)) (now (operands .entry)))) (placed at (now (buffer .entry))) ⌝ }
+{
+    let mut j = at;
+    let mut i: u32 = 0;
+    while i < n {
+        let k = base::byte_at(numbers, i as usize);
+        let x = base::word_at(operands, i as usize);
+        j = put_record(buffer, j, k, x);
+        i += 1;
+    }
+    j
+}
+
+// Writes the text of the object with V, T and the first n orders of two arrays: their numbers and their operands. The room
+// for all of it is tested first, so a buffer that is too short keeps every byte.
+pub fn write(numbers: &[u8], operands: &[u32], v: u32, t: u32, n: u32, buffer: &mut [u8]) -> Written
+    ensures replied { λ r. ⌜ written r ≡ replyFor (text v t (ordersFrom 0 n (now (numbers .entry)) (now (operands .entry)))) (now (buffer .entry)) ⌝ }
+    ensures filled { λ _. ⌜ now (buffer .exit) ≡ filledWith (text v t (ordersFrom 0 n (now (numbers .entry)) (now (operands .entry)))) (now (buffer .entry)) ⌝ }
+{
+    let total = text_length(numbers, operands, v, t, n);
+    if buffer.len() < total {
+        return Written::Short;
+    }
+    let at = put_header(buffer, 0, v, t, n);
+    put_records(buffer, at, numbers, operands, n);
+    Written::Whole(total)
+}

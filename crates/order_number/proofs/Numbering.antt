@@ -1,0 +1,59 @@
+-- Orders and operations by their numbers.
+use Prim.Native.Nat.{ℕ, _+_, _-_, _<_, _≤_}
+use mathlib.Core.Path.{_≡_, sym, ap, _∙_}
+use mathlib.Core.List.{_++_, map}
+use native.Mathlib.Omega.{arith}
+use lib.ListN.{getD, take, List·getD-eq-default, List·getD-append}
+use lib.Seq.{getD-append-add, getD-take}
+use Rattle.base.proofs.Lists.{getD-map-inside}
+use Rattle.order.specs.declared.Operation.{Operation}
+use Rattle.order.specs.declared.Operation.the-variants.{Cmp}
+use Rattle.order.specs.declared.Order.{Order}
+use Rattle.order.specs.declared.Order.the-variants.{Word, Number, Stop}
+use Rattle.order.specs.Order.{operations, shapes, orderOf}
+use Rattle.order_number.specs.Internal.{plainOrder}
+
+-- no order below 12 has a number that is 12 or more
+pub no-plain-order : (k v : ℕ) → 12 ≤ k → Stop ≡ plainOrder k v
+unfolding plainOrder shapes
+no-plain-order k v h = ap (λ f. f v) (sym (List·getD-eq-default (take 12 shapes) (λ v. Stop) {n = k} h))
+
+pub order-plain : (k v : ℕ) → k < 12 → plainOrder k v ≡ orderOf k v
+unfolding plainOrder orderOf
+order-plain k v h = ap (λ f. f v) (getD-take 12 shapes k (λ v. Stop) h)
+
+-- an operation on a word has its operation's number and 12, one on a number its operation's and 24
+abbrev on-word : Operation → ℕ → Order
+on-word f v = Word f v
+
+abbrev on-number : Operation → ℕ → Order
+on-number f v = Number f v
+
+order-word : (k v : ℕ) → k < 12 → Word (getD operations k Cmp) v ≡ orderOf (12 + k) v
+unfolding shapes orderOf
+order-word k v h =
+    ap
+    (λ f. f v)
+    (sym
+    (getD-append-add (take 12 shapes) (map on-word operations ++ map on-number operations) k (λ v. Stop)
+    ∙ List·getD-append (map on-word operations) (map on-number operations) (λ v. Stop) k h
+    ∙ getD-map-inside on-word operations k (λ v. Stop) Cmp h))
+
+order-number : (k v : ℕ) → k < 12 → Number (getD operations k Cmp) v ≡ orderOf (24 + k) v
+unfolding shapes orderOf
+order-number k v h =
+    ap
+    (λ f. f v)
+    (sym
+    (getD-append-add (take 24 shapes) (map on-number operations) k (λ v. Stop)
+    ∙ getD-map-inside on-number operations k (λ v. Stop) Cmp h))
+
+pub word-again : (k v : ℕ) → 12 ≤ k → k < 24 → Word (getD operations (k - 12) Cmp) v ≡ orderOf k v
+word-again k v g h =
+    let e : 12 + (k - 12) ≡ k = omega arith in
+    order-word (k - 12) v (omega arith) ∙ ap (λ n. orderOf n v) e
+
+pub number-again : (k v : ℕ) → 24 ≤ k → k < 36 → Number (getD operations (k - 24) Cmp) v ≡ orderOf k v
+number-again k v g h =
+    let e : 24 + (k - 24) ≡ k = omega arith in
+    order-number (k - 24) v (omega arith) ∙ ap (λ n. orderOf n v) e

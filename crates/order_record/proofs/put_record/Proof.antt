@@ -1,0 +1,29 @@
+use borrow.Author.Needs.{needs}
+use mathlib.Core.Path.{ap, ap₂, _∙_}
+use Rattle.text.specs.Pieces.{decimal}
+use Rattle.text.specs.Internal.{putByte, putAll}
+use Rattle.order.specs.Order.{operand}
+use Rattle.order_record.proofs.Writing.{put-parts}
+use Rattle.order_record.proofs.put_record.Statement.{statement}
+use Rattle.order_record.proofs.put_record.Tie as tie
+
+returns : tie.Need-returns
+returns c =
+    let d = c .before .before .before .before .before .before in
+    let h = d .before .before .before .before .before .before in
+    let o = d .before .operand-of .ensures ∙ ap operand (d .before .before .order-of .ensures) in
+    c .before .before .put-byte .ensures
+    ∙ ap (putByte 10) (d .put-decimal .ensures ∙ ap₂ (λ x p. putAll (decimal x) p) o (h .put-heading .ensures))
+    ∙ put-parts _ _ _
+
+pub put-record-spec : {M : Type 1} → statement M
+put-record-spec =
+    tie.close
+    (tie.spec
+    (λ c. search needs)
+    (λ c. search needs)
+    (λ c. search needs)
+    (λ c. search needs)
+    (λ c. search needs)
+    (λ c. search needs)
+    returns)

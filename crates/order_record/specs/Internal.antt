@@ -1,0 +1,25 @@
+-- What the answers of the functions stand for. A reader of the promises needs none of it.
+use Prim.Native.Nat.{ℕ}
+use mathlib.Core.List.{List}
+use lib.Dec.{ltb, eqb}
+use lib.ListN.{drop}
+use Rattle.base.specs.Choice.{pick}
+use Rattle.base.specs.Front.{found, missing, onFront}
+use Rattle.text.specs.Pieces.{Front, fixed, numeral}
+use Rattle.order.specs.declared.Order.{Order}
+use Rattle.order.specs.Order.{operand, orderOf}
+use Rattle.order.specs.Object.{heading}
+use Rattle.order_record.specs.declared.Record.{Record}
+use Rattle.order_record.specs.declared.Record.the-variants.{Found, Missing as NoRecord}
+
+abbrev pub orderFound : List ℕ → Record → Front Order
+orderFound s (Found o i) = found o (drop i s)
+orderFound s NoRecord = missing
+
+-- the name and kind of the order with the number k, if there is one
+abbrev pub headingAt : ℕ → List ℕ → Front (List ℕ)
+headingAt k l = pick (ltb k 36) (fixed (heading (orderOf k 0)) l) missing
+
+-- the number of a record behind the heading of the order with the number k
+abbrev pub numberAfter : ℕ → List ℕ → Front Order
+numberAfter k l = onFront (numeral 10 l) (λ v l₁. pick (eqb (operand (orderOf k v)) v) (found (orderOf k v) l₁) missing) missing

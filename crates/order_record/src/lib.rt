@@ -1,0 +1,162 @@
+// The record of an order in object text: read at a place, and written.
+use base::part;
+use order::Order;
+use order_number::operand_of;
+use order_number::order_of;
+use text::read::Numeral;
+use text::read::Place;
+use text::read::fixed_at;
+use text::read::numeral_at;
+use text::write::decimal_length;
+use text::write::put_byte;
+use text::write::put_decimal;
+use text::write::put_fixed;
+ghost use mathlib.Core.Path.{_≡_};
+ghost use Prim.Native.Nat.{_≤_};
+ghost use lib.ListN.{length, drop};
+ghost use Rattle.text.specs.Internal.{behind, placed, putAll};
+ghost use Rattle.order.specs.Order.{orderOf};
+ghost use Rattle.order.specs.Object.{heading, recordText, recordAt};
+ghost use Rattle.order_record.specs.Internal.{orderFound, headingAt, numberAfter};
+
+// An order and the place behind its record, or that no record stands there.
+pub enum Record {
+    Found(Order, usize),
+    Missing,
+}
+
+// The names and kinds of the orders, each with the tab behind it, by the numbers of the orders: seven bytes each, a shorter
+// one with spaces behind it.
+const HEADINGS: [u8; 252] = *b"STOP\t-\tSEND\t-\tNEG\t-\t NOT\t-\t JMP\tA\t BE\tA\t  \
+    BNE\tA\t BLT\tA\t BLE\tA\t BGT\tA\t BGE\tA\t STR\tD\t \
+    LOAD\tD\tADD\tD\t SUB\tD\t MLT\tD\t DIV\tD\t EXP\tD\t \
+    SHL\tD\t SHR\tD\t AND\tD\t OR\tD\t  XOR\tD\t CMP\tD\t \
+    LOAD\tK\tADD\tK\t SUB\tK\t MLT\tK\t DIV\tK\t EXP\tK\t \
+    SHL\tK\t SHR\tK\t AND\tK\t OR\tK\t  XOR\tK\t CMP\tK\t ";
+
+// Their lengths.
+const HEADING_LENGTHS: [usize; 36] = [
+    7,
+    7,
+    6,
+    6,
+    6,
+    5,
+    6,
+    6,
+    6,
+    6,
+    6,
+    6,
+    7,
+    6,
+    6,
+    6,
+    6,
+    6,
+    6,
+    6,
+    6,
+    5,
+    6,
+    6,
+    7,
+    6,
+    6,
+    6,
+    6,
+    6,
+    6,
+    6,
+    6,
+    5,
+    6,
+    6,
+];
+
+// The length of a heading, that of STOP where no order has the number.
+fn heading_length(k: u8) -> usize
+    ensures exact { λ r. ⌜ r ≡ length (heading (orderOf k 0)) ⌝ }
+    ensures few { λ r. ⌜ r ≤ 7 ⌝ }
+{
+    if k < 36 {
+        return HEADING_LENGTHS[k as usize];
+    }
+    7
+}
+
+// The name and kind of the order with the number k, if there is one.
+fn heading_at(s: &[u8], at: usize, k: u8) -> Place
+    ensures { λ r. ⌜ behind (now (s .entry)) r ≡ headingAt k (drop at (now (s .entry))) ⌝ }
+{
+    if k < 36 {
+        return fixed_at(s, at, part(&HEADINGS, 7 * k as usize, heading_length(k)));
+    }
+    Place::Missing
+}
+
+// The name and kind of the order with the number k, STOP where there is none.
+fn put_heading(buffer: &mut [u8], at: usize, k: u8) -> usize
+    ensures { λ r. ⌜ placed r (now (buffer .exit)) ≡ putAll (heading (orderOf k 0)) (placed at (now (buffer .entry))) ⌝ }
+{
+    if k < 36 {
+        return put_fixed(
+            buffer,
+            at,
+            part(&HEADINGS, 7 * k as usize, heading_length(k)),
+        );
+    }
+    put_fixed(buffer, at, part(&HEADINGS, 0, 7))
+}
+
+// The number in the record of an order with the number k. Kind - has number 0, the operand of its orders.
+fn number_after(s: &[u8], at: usize, k: u8) -> Record
+    ensures { λ r. ⌜ orderFound (now (s .entry)) r ≡ numberAfter k (drop at (now (s .entry))) ⌝ }
+{
+    match numeral_at(s, at, 10) {
+        Numeral::Number(v, i) => {
+            let o = order_of(k, v);
+            if operand_of(o) == v {
+                Record::Found(o, i)
+            } else {
+                Record::Missing
+            }
+        }
+        Numeral::Missing => Record::Missing,
+    }
+}
+
+// The record at a place: the order whose name and kind stand there, with its number.
+pub fn record_at(s: &[u8], at: usize) -> Record
+    ensures { λ r. ⌜ orderFound (now (s .entry)) r ≡ recordAt (drop at (now (s .entry))) ⌝ }
+{
+    let mut k: u8 = 0;
+    while k < 36 {
+        match heading_at(s, at, k) {
+            Place::Behind(i) => {
+                return number_after(s, i, k);
+            }
+            Place::Missing => {
+                k += 1;
+            }
+        }
+    }
+    Record::Missing
+}
+
+// The record of the order with the number k and the operand v.
+pub fn put_record(buffer: &mut [u8], at: usize, k: u8, v: u32) -> usize
+    ensures { λ r. ⌜ placed r (now (buffer .exit)) ≡ putAll (recordText (orderOf k v)) (placed at (now (buffer .entry))) ⌝ }
+{
+    let i = put_heading(buffer, at, k);
+    let j = put_decimal(buffer, i, operand_of(order_of(k, v)));
+    put_byte(buffer, j, 10)
+}
+
+// The length of a record, with a bound by which no sum of lengths overflows.
+pub fn record_length(k: u8, v: u32) -> usize
+    ensures exact { λ r. ⌜ r ≡ length (recordText (orderOf k v)) ⌝ }
+    ensures few { λ r. ⌜ r ≤ 18 ⌝ }
+{
+    heading_length(k) + decimal_length(operand_of(order_of(k, v))) + 1
+}

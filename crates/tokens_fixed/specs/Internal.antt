@@ -1,0 +1,58 @@
+-- What the private functions compute.
+use Prim.Native.Nat.{ℕ}
+use lib.Dec.{eqb}
+use Rattle.base.specs.Choice.{pick}
+use Rattle.word.specs.declared.Relation.the-variants.{Equal, Unequal, Less, AtMost, Greater, AtLeast}
+use Rattle.sheet.specs.declared.Operator.the-variants.{Plus, Minus, Times, Over, Power, Left, Right, And, Or, Unlike}
+use Rattle.source.specs.declared.Token.{Token}
+use Rattle.source.specs.declared.Token.the-variants.{Binary, Compare, Mark}
+use Rattle.source.specs.Tokens.{markArrow}
+use Rattle.tokens_fixed.specs.declared.Pair.{Pair}
+use Rattle.tokens_fixed.specs.declared.Pair.the-variants.{Token as PairIs, Missing as NoPair}
+
+-- a character twice
+unfoldable pub doubledOf : ℕ → Pair
+doubledOf c =
+    pick
+    (eqb c 42)
+    (PairIs (Binary Power))
+    (pick
+    (eqb c 60)
+    (PairIs (Binary Left))
+    (pick (eqb c 62) (PairIs (Binary Right)) (pick (eqb c 33) (PairIs (Binary Unlike)) NoPair)))
+
+-- a character and =
+unfoldable pub withEqualOf : ℕ → Pair
+withEqualOf c = pick (eqb c 60) (PairIs (Compare AtMost)) (pick (eqb c 62) (PairIs (Compare AtLeast)) NoPair)
+
+unfoldable pub pairOf : ℕ → ℕ → Pair
+pairOf c d =
+    pick
+    (eqb c 45)
+    (pick (eqb d 62) (PairIs (Mark markArrow)) NoPair)
+    (pick (eqb d c) (doubledOf c) (pick (eqb d 61) (withEqualOf c) NoPair))
+
+unfoldable pub singleOf : ℕ → Token
+singleOf c =
+    pick
+    (eqb c 43)
+    (Binary Plus)
+    (pick
+    (eqb c 45)
+    (Binary Minus)
+    (pick
+    (eqb c 42)
+    (Binary Times)
+    (pick
+    (eqb c 47)
+    (Binary Over)
+    (pick
+    (eqb c 38)
+    (Binary And)
+    (pick
+    (eqb c 33)
+    (Binary Or)
+    (pick
+    (eqb c 61)
+    (Compare Equal)
+    (pick (eqb c 35) (Compare Unequal) (pick (eqb c 60) (Compare Less) (pick (eqb c 62) (Compare Greater) (Mark c))))))))))
