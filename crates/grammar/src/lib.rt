@@ -4,6 +4,7 @@ use grammar_look::label_at;
 use grammar_look::mark_at;
 use grammar_look::name_at;
 use grammar_output::Step;
+use source::MOST_CELLS;
 use source::marks::MARK_BEGIN;
 use source::marks::MARK_COMMA;
 use source::marks::MARK_END;
@@ -12,6 +13,7 @@ ghost use mathlib.Core.Bool.{true, false};
 ghost use mathlib.Core.Path.{_≡_};
 ghost use Prim.Native.Nat.{_≤_, _*_};
 ghost use lib.ListN.{length};
+ghost use Rattle.source.specs.Limits.{mostCells};
 ghost use Rattle.source.specs.Grammar.{form, isNameList, labelledForm, labelsAt};
 ghost use Rattle.source.specs.Memory.{tokensFrom};
 ghost use Rattle.grammar_look.specs.Internal.{left};
@@ -31,7 +33,7 @@ pub enum Form {
 
 // Whether the tokens from place `at` on are a list of names parted by commas.
 fn is_name_list(kinds: &[u8], values: &[u32], n: usize, at: usize) -> bool
-    requires { ⌜ n ≤ 256 ⌝ }
+    requires { ⌜ n ≤ mostCells ⌝ }
     ensures { λ r. ⌜ r ≡ isNameList (left n at (now (kinds .entry)) (now (values .entry))) ⌝ }
 {
     let mut i = at;
@@ -50,7 +52,7 @@ fn is_name_list(kinds: &[u8], values: &[u32], n: usize, at: usize) -> bool
 
 // The number of labels that stand before anything else.
 fn labels(kinds: &[u8], values: &[u32], n: usize) -> usize
-    requires { ⌜ n ≤ 256 ⌝ }
+    requires { ⌜ n ≤ mostCells ⌝ }
     ensures { λ r. ⌜ LabelsOf n r (now (kinds .entry)) (now (values .entry)) ⌝ }
 {
     let mut c = 0;
@@ -62,7 +64,7 @@ fn labels(kinds: &[u8], values: &[u32], n: usize) -> usize
 
 // A statement of labels, an instruction, or both.
 fn labelled(kinds: &[u8], values: &[u32], n: usize, fields: &mut [u8], carried: &mut [u32]) -> Form
-    requires { ⌜ (n ≤ 256) × (n ≤ length (now fields)) × (n ≤ length (now carried)) ⌝ }
+    requires { ⌜ (n ≤ mostCells) × (n ≤ length (now fields)) × (n ≤ length (now carried)) ⌝ }
     ensures read { λ r. ⌜ told (tokensFrom 0 n (now (kinds .entry)) (now (values .entry))) r (now (fields .exit))
         (now (carried .exit)) ≡ fieldsOf (labelledForm (labelsAt (tokensFrom 0 n (now (kinds .entry)) (now (values .entry))))) ⌝ }
     ensures few { λ r. ⌜ Few n r ⌝ }
@@ -82,10 +84,10 @@ fn labelled(kinds: &[u8], values: &[u32], n: usize, fields: &mut [u8], carried: 
 
 // Whether n tokens are more than a statement can have, or than one of two arrays has room for.
 fn is_long(n: usize, room: usize, other: usize) -> bool
-    ensures long { λ r. ⌜ (r ≡ true → n ≤ 256 → n ≤ room → n ≤ other → ⊥) ⌝ }
-    ensures short { λ r. ⌜ (r ≡ false → (n ≤ 256) × (n ≤ room) × (n ≤ other)) ⌝ }
+    ensures long { λ r. ⌜ (r ≡ true → n ≤ mostCells → n ≤ room → n ≤ other → ⊥) ⌝ }
+    ensures short { λ r. ⌜ (r ≡ false → (n ≤ mostCells) × (n ≤ room) × (n ≤ other)) ⌝ }
 {
-    if 256 < n {
+    if MOST_CELLS < n {
         return true;
     }
     if room < n {
@@ -107,7 +109,7 @@ pub fn form_of(
     carried: &mut [u32],
 ) -> Form
     ensures read { λ r.
-        ⌜ (n ≤ 256 → n ≤ length (now (fields .entry)) → n ≤ length (now (carried .entry))
+        ⌜ (n ≤ mostCells → n ≤ length (now (fields .entry)) → n ≤ length (now (carried .entry))
         → told (tokensFrom 0 n (now (kinds .entry)) (now (values .entry))) r (now (fields .exit)) (now (carried .exit))
         ≡ fieldsOf (form (tokensFrom 0 n (now (kinds .entry)) (now (values .entry))))) ⌝ }
     ensures few { λ r. ⌜ Few n r ⌝ }

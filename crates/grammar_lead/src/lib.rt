@@ -5,6 +5,7 @@ use grammar_look::lead_at;
 use grammar_output::put;
 use sheet::Field;
 ghost use Prim.Native.Nat.{_<_, _≤_};
+ghost use Rattle.source.specs.Limits.{mostCells};
 ghost use Rattle.grammar_output.specs.Internal.{Room, Ready};
 ghost use Rattle.grammar_lead.specs.Internal.{SignedAs, OpenedAs};
 
@@ -24,7 +25,7 @@ fn signed(
     f: Field,
     upper: usize,
 ) -> Opened
-    requires { ⌜ (at < 256) × (out ≤ at) × Room out (now fields) (now carried) ⌝ }
+    requires { ⌜ (at < mostCells) × (out ≤ at) × Room out (now fields) (now carried) ⌝ }
     ensures { λ r. ⌜ SignedAs at out upper f (now (fields .entry)) (now (carried .entry)) r (now (fields .exit))
         (now (carried .exit)) ⌝ }
 {

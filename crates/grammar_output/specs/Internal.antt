@@ -6,6 +6,7 @@ use lib.ListN.{length, getD, set as stored, take, drop}
 use Rattle.base.specs.Choice.{pick}
 use Rattle.sheet.specs.declared.Operator.{Operator}
 use Rattle.sheet.specs.declared.Field.{Field}
+use Rattle.source.specs.Limits.{mostCells}
 use Rattle.source.specs.Grammar.{level}
 use Rattle.grammar_output.specs.declared.Step.{Step}
 use Rattle.grammar_output.specs.declared.Step.the-variants.{At, Missing}
@@ -26,7 +27,7 @@ insertAt p f fs = take p fs ++ f ∷ drop p fs
 
 -- the tokens from place `at` on are read, of n, and the fields are written from place `out` on
 pub record Ready (n at out : ℕ) (ks vs : List ℕ) : Type 0 where
-  pub short : n ≤ 256
+  pub short : n ≤ mostCells
   pub inside : at ≤ n
   pub fewer : out ≤ at
   pub kinds-room : n ≤ length ks

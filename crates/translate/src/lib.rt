@@ -67,7 +67,7 @@ pub fn translate(
     if MOST_VARIABLES < v {
         return Translated::Over;
     }
-    let mut firsts = [0u32; 1025];
+    let mut firsts = [0u32; MOST_ORDERS as usize + 1];
     let total = total_size(kinds, values, n, &mut firsts);
     if MOST_TEMPORARIES < total.temporaries {
         return Translated::Over;

@@ -170,7 +170,7 @@ pub fn untranslate(
     if most_used(numbers, operands, n, v) != t {
         return Untranslated::Missing;
     }
-    let mut starts = [0u32; 1024];
+    let mut starts = [0u32; MOST_ORDERS as usize];
     let Marked::Places(many) = mark(numbers, operands, n, v + 2, &mut starts) else {
         return Untranslated::Missing;
     };
