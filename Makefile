@@ -7,7 +7,7 @@ ARCHIVE = target/staticlib/libskimp.a
 test:
 	@tools/gate
 
-# The must-fail edits of one crate: make edits CRATE=name
+# The must-fail edits of one crate, tried: make edits CRATE=name. Without CRATE: whether the texts of all edits still fit.
 edits:
 	@tools/edits $(CRATE)
 
