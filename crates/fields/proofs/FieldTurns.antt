@@ -172,6 +172,10 @@ abbrev pub prefixed : List Field → LedFields → LedFields
 prefixed fs (led gs) = led (fs ++ gs)
 prefixed fs (unsetIn k) = unsetIn k
 
+pub prefix-none : (l : LedFields) → prefixed [] l ≡ l
+prefix-none (led fs) = refl
+prefix-none (unsetIn k) = refl
+
 prefix-more : (fs : List Field) (g : Field) (l : LedFields) → prefixed (fs ++ g ∷ []) l ≡ prefixed fs (behindField g l)
 prefix-more fs g (led gs) = ap led (append-assoc fs (g ∷ []) gs)
 prefix-more fs g (unsetIn k) = refl
@@ -238,11 +242,7 @@ lead-over ls ks vs n i h g =
 pub lead-first : (ls : List Label) (ks vs : List ℕ) (n : ℕ)
     → prefixed (each (fieldIn ks vs) 0 0) (ledAll ls (each (fieldIn ks vs) 0 (n - 0))) ≡ ledAll ls (fieldsFrom 0 n ks vs)
 unfolding each
-lead-first ls ks vs n = rw (sub-zero n, fields-each 0 n ks vs) (nothing (ledAll ls (each (fieldIn ks vs) 0 n)))
-  where
-    nothing : (l : LedFields) → prefixed [] l ≡ l
-    nothing (led fs) = refl
-    nothing (unsetIn k) = refl
+lead-first ls ks vs n = rw (sub-zero n, fields-each 0 n ks vs) (prefix-none (ledAll ls (each (fieldIn ks vs) 0 n)))
 
 -- the same by what leading one jump does
 pub led-turn : {ls : List Label} {ks vs after : List ℕ} {i : ℕ} {r : Led} (n : ℕ) → LeadsOne ls ks i vs r after → r ≡ All → i < n → i < length vs

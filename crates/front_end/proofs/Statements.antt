@@ -8,11 +8,11 @@ use lib.ListN.{length, drop}
 use Rattle.base.specs.Choice.{pick}
 use Rattle.base.specs.Places.{each}
 use Rattle.base.proofs.Cases.{by-test}
-use Rattle.sheet.specs.Sheet.{Sheet, Instruction, simple, when, either, Simple, set, send, goto, variables, instructions}
-use Rattle.sheet.specs.Fields.{instructionFields}
+use Rattle.sheet.specs.Sheet.{Sheet, variables, instructions}
 use Rattle.sheet.specs.Translation.{ordersOfAll}
 use Rattle.sheet_field.specs.Memory.{fieldsFrom}
 use Rattle.translate_size.proofs.Lengths.{instruction-twice}
+use Rattle.translate_size.proofs.Measured.{some-instruction}
 use Rattle.source.specs.declared.Mode.the-variants.{Plain}
 use Rattle.source.specs.Cells.{Statements, ended, cut, _then_, statementsFrom, statements}
 use Rattle.source.specs.Program.{Program, nothingRead, Placed, placed, instructionOf, Outcome, statement}
@@ -65,23 +65,13 @@ starting {source} {ns} {ls} {ks} {vs} room =
 
 -- ---- an instruction has an order
 
-simple-some : (u : Simple) → 1 ≤ length (instructionFields (simple u))
-simple-some (set w e) = omega arith
-simple-some (send e) = omega arith
-simple-some (goto s) = omega arith
-
-some-fields : (i : Instruction) → 1 ≤ length (instructionFields i)
-some-fields (simple u) = simple-some u
-some-fields (when r a b u) = omega arith
-some-fields (either r a b u w) = omega arith
-
 placed-orders : (ps : List Placed) → length ps ≤ ordersOfAll 0 (map instructionOf ps)
 unfolding ordersOfAll
 placed-orders [] = omega arith
 placed-orders (placed k i ∷ ps) =
     let a = placed-orders ps in
     let b = instruction-twice 0 i in
-    let c = some-fields i in
+    let c = some-instruction i in
     omega (arith, a, b, c)
 
 pub few-counts : {q : Program} {p : Progress} {ns ls ks vs : List ℕ} → Holds q p ns ls ks vs → FewCounts p

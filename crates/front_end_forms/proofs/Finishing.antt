@@ -23,7 +23,7 @@ use Rattle.labels.specs.Answers.{labelsOf}
 use Rattle.fields.specs.declared.Led.{Led}
 use Rattle.fields.specs.declared.Led.the-variants.{All, Unset as UnsetAt}
 use Rattle.fields.specs.Answers.{packedField, packedJump, LedFields, led, unsetIn, behindField, ledAll, ledIn}
-use Rattle.fields.proofs.FieldTurns.{prefixed}
+use Rattle.fields.proofs.FieldTurns.{prefixed, prefix-none}
 use Rattle.front_end_forms.specs.declared.Progress.{Progress}
 use Rattle.front_end_forms.specs.declared.Step.the-variants.{Refused, Given}
 use Rattle.front_end_forms.specs.Answers.{placedFields, AllPacked, Holds, Held, Comes, refuses, gives}
@@ -129,11 +129,7 @@ module _ (ls : List Label) (k : ℕ) (few : k < 65536) (rest : List Field) where
 
   pub statement-led : (fs : List Field) → all isLabel (jumpsIn fs) ≡ true → ledAll ls (map (packedField k) fs ++ rest) ≡ ahead fs
   unfolding ledAll jumpsIn all pick
-  statement-led [] good = nothing (ledAll ls rest)
-    where
-      nothing : (l : LedFields) → l ≡ prefixed [] l
-      nothing (led fs) = refl
-      nothing (unsetIn k) = refl
+  statement-led [] good = sym (prefix-none (ledAll ls rest))
   statement-led (Else ∷ fs) good = ap (behindField Else) (statement-led fs good) ∙ over-field Else fs
   statement-led (Then ∷ fs) good = ap (behindField Then) (statement-led fs good) ∙ over-field Then fs
   statement-led (Send ∷ fs) good = ap (behindField Send) (statement-led fs good) ∙ over-field Send fs
