@@ -12,18 +12,18 @@ use source::MOST_CELLS;
 use source::TABLE_ROWS;
 ghost use mathlib.Core.Path.{_≡_};
 ghost use lib.ListN.{length};
-ghost use Rattle.sheet_field.specs.Memory.{mostFields};
 ghost use Rattle.source.specs.Cells.{statements};
 ghost use Rattle.source.specs.Program.{nothingRead};
-ghost use Rattle.source.specs.Source.{program, answer};
-ghost use Rattle.front_end.specs.Answers.{told, answered};
+ghost use Rattle.source.specs.Source.{program};
+ghost use Rattle.front_end.specs.Answers.{told, answered, answeredIn};
 ghost use Rattle.front_end.specs.Internal.{Rooms};
 
-// A sheet: V, the number of its instructions, and how many fields the arrays hold from their front on; or document 01's
-// number and place of the refusal. The arrays then hold anything.
+// A sheet: V, the number of its instructions, and how many fields the arrays hold from their front on; document 01's number
+// and place of the refusal; or that the arrays have not MOST_FIELDS places each.
 pub enum Answer {
     Sheet(u32, u32, u32),
     Refused(u32, u32),
+    Unfit,
 }
 
 // The statements of a source, one after the other.
@@ -64,17 +64,17 @@ fn read_statements(
     Answer::Refused(10, k)
 }
 
-// The sheet of a source, or the first refusal: "1 comes first, then 2. Then statements in order". The two arrays have
-// MOST_FIELDS places each.
+// The sheet of a source, or the first refusal: "1 comes first, then 2. Then statements in order". Free is what the arrays hold
+// behind the fields of a sheet, and all that they hold where there is none; their lengths stay.
 pub fn read(source: &[u8], kinds: &mut [u8], values: &mut [u32]) -> Answer
-    ensures { λ r. ⌜ (length (now (kinds .entry)) ≡ mostFields → length (now (values .entry)) ≡ mostFields
-        → told r (now (kinds .exit)) (now (values .exit)) ≡ answered (answer (now (source .entry)))) ⌝ }
+    ensures told { λ r. ⌜ told r (now (kinds .exit)) (now (values .exit)) ≡ answeredIn (now (source .entry)) (now (kinds .entry)) (now (values .entry)) ⌝ }
+    ensures kept { λ _. ⌜ (length (now (kinds .exit)) ≡ length (now (kinds .entry))) × (length (now (values .exit)) ≡ length (now (values .entry))) ⌝ }
 {
     if kinds.len() != MOST_FIELDS {
-        return Answer::Refused(0, 0);
+        return Answer::Unfit;
     }
     if values.len() != MOST_FIELDS {
-        return Answer::Refused(0, 0);
+        return Answer::Unfit;
     }
     if MOST_BYTES < source.len() {
         return Answer::Refused(1, 0);

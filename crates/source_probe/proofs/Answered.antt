@@ -11,29 +11,37 @@ use Rattle.sheet_field.specs.Memory.{fieldsFrom}
 use Rattle.sheet_text.specs.Answers.{InMemory, ForText, replyFor}
 use Rattle.source.specs.Source.{Answer, accepted, refusal}
 use Rattle.front_end.specs.declared.Answer.{Answer as Reply}
-use Rattle.front_end.specs.declared.Answer.the-variants.{Sheet as SheetIs, Refused}
-use Rattle.front_end.specs.Answers.{Told, fieldsOfSheet, refusedAt, told, answered}
+use Rattle.front_end.specs.declared.Answer.the-variants.{Sheet as SheetIs, Refused, Unfit}
+use Rattle.front_end.specs.Answers.{Told, fieldsOfSheet, refusedAt, unfit, told, answered}
 use Rattle.source_probe.specs.Reply.{replyNumber, replyTo, filledBy}
 
 abbrev number : Told → ℕ
 number (fieldsOfSheet v count fs) = 0
 number (refusedAt n k) = 1
+number unfit = 2
 
 abbrev first : Told → ℕ
 first (fieldsOfSheet v count fs) = v
 first (refusedAt n k) = n
+first unfit = 0
 
 abbrev second : Told → ℕ
 second (fieldsOfSheet v count fs) = count
 second (refusedAt n k) = k
+second unfit = 0
 
 abbrev fieldsOr : List Field → Told → List Field
 fieldsOr d (fieldsOfSheet v count fs) = fs
 fieldsOr d (refusedAt n k) = d
+fieldsOr d unfit = d
 
 is-refusal : (a : Answer) (n k : ℕ) → refusedAt n k ≡ answered a → a ≡ refusal n k
 is-refusal (accepted s) n k e = let z : _≡_ {A = ℕ} 1 0 = ap number e in absurd (omega arith)
 is-refusal (refusal m j) n k e = let x : n ≡ m = ap first e in let y : k ≡ j = ap second e in rw (x, y) refl
+
+never-unfit : {A : Type 0} (a : Answer) → unfit ≡ answered a → A
+never-unfit (accepted s) e = let z : _≡_ {A = ℕ} 2 0 = ap number e in absurd (omega arith)
+never-unfit (refusal n k) e = let z : _≡_ {A = ℕ} 2 1 = ap number e in absurd (omega arith)
 
 pub record IsSheet (a : Answer) (v count n : ℕ) (ks vs : List ℕ) : Type 0 where
   pub what : Sheet
@@ -55,6 +63,9 @@ module _ (a : Answer) (r : Reply) (ks vs : List ℕ) (e : told r ks vs ≡ answe
 
   pub sheet-told : (v count n : ℕ) → r ≡ SheetIs v count n → IsSheet a v count n ks vs
   sheet-told v count n z = is-sheet a v count n ks vs (rw z at e)
+
+  pub never-told : {A : Type 0} → r ≡ Unfit → A
+  never-told z = never-unfit a (rw z at e)
 
 -- the reply and the buffer, by the case of the answer
 pub replied-refusal : (a : Answer) (n k : ℕ) (buffer : List ℕ) → a ≡ refusal n k → (n * 4294967296 + k ≡ replyNumber (replyTo a buffer)) × (buffer ≡ filledBy a buffer)

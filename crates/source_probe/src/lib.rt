@@ -9,7 +9,7 @@ ghost use Rattle.source.specs.Source.{answer};
 ghost use Rattle.source_probe.specs.Reply.{replyNumber, replyTo, filledBy};
 
 // Document 01's number of the reply * 2^32 + the length of the sheet's text, which fills the front of the buffer, or the
-// place of the refusal.
+// place of the refusal. The arrays have the places that `read` asks for, so they are never unfit.
 #[no_mangle]
 pub extern "C" fn source_probe_read(source: &[u8], sheet: &mut [u8]) -> u64
     ensures replied { λ r. ⌜ r ≡ replyNumber (replyTo (answer (now (source .entry))) (now (sheet .entry))) ⌝ }
@@ -20,6 +20,7 @@ pub extern "C" fn source_probe_read(source: &[u8], sheet: &mut [u8]) -> u64
     match front_end::read(source, &mut kinds, &mut values) {
         Answer::Refused(n, k) => n as u64 * 4294967296 + k as u64,
         Answer::Sheet(v, count, n) => write_sheet(&kinds, &values, n, v, count, sheet),
+        Answer::Unfit => 18446744073709551615,
     }
 }
 

@@ -31,6 +31,7 @@ fn read(title: &[u8], source: &[u8]) {
     match front_end::read(source, &mut kinds, &mut values) {
         Answer::Refused(n, k) => write_refusal(n, k),
         Answer::Sheet(v, count, n) => write_sheet(&kinds, &values, n, v, count),
+        Answer::Unfit => say(b": no room\n"),
     }
 }
 
