@@ -1,10 +1,11 @@
 -- The count of a program is a sum over the instructions done, each of which adds one order at least; the end adds STOP.
 use Prim.Native.Nat.{ℕ, zero, suc, _+_, _≤_}
-use mathlib.Core.Path.{_≡_, refl}
+use mathlib.Core.Path.{_≡_, refl, sym, ap, _∙_}
 use mathlib.Core.List.{List, [], _∷_}
 use native.Mathlib.Omega.{arith}
 use borrow.Author.Tests.{eq-eqb, ne-eqb}
 use Rattle.base.specs.Choice.{pick}
+use Rattle.base.proofs.Cases.{by-equal}
 use Rattle.sheet.specs.Sheet.{Instruction, Sheet, sheet}
 use Rattle.sheet.specs.Meaning.{Counted, gives, faults, Next, onward, at, doInstruction, Progress, moved, stopped, instructionAt, further, after}
 use Rattle.sheet.proofs.Values.{Some, some-instruction}
@@ -49,3 +50,13 @@ each-counts (sheet v is) room k yet = further-adds room is (after k room (sheet 
 pub ended-counts : (s : Sheet) (room k : ℕ) → (after k room s .ending ≡ 0 → ⊥) → after (suc k) room s ≡ after k room s
 unfolding after further pick
 ended-counts (sheet v is) room k ended = rw (ne-eqb (after k room (sheet v is) .ending) 0 ended) refl
+
+-- the count of k instructions done is k at least
+pub count-at-least : (s : Sheet) (room k : ℕ) → after k room s .ending ≡ 0 → k ≤ after k room s .count
+count-at-least s room zero yet = omega arith
+count-at-least s room (suc k) yet =
+    by-equal (after k room s .ending) 0
+    (λ going. let one = each-counts s room k going in
+    let before = count-at-least s room k going in
+    omega (arith, one .some, one .sum, before))
+    (λ ended. absurd (ended (ap (λ p. p .ending) (sym (ended-counts s room k ended)) ∙ yet)))

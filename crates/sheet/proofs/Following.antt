@@ -283,6 +283,7 @@ module _ (v : ℕ) (is : List Instruction) (within : Within (sheet v is)) (out :
     variables-too = rw (← fine .as-many) (take-append-seam (p .store .words) us);
     sent-too = refl;
     ends-alike = sym yet;
+    next-too = λ _. let before : j ≡ p .next - 1 = omega (arith, next-is) in ap first-of before;
     ended = λ over-so. absurd (over-so yet);
   }
   seen p (over r us over-so e s fine runs) = record {
@@ -292,6 +293,7 @@ module _ (v : ℕ) (is : List Instruction) (within : Within (sheet v is)) (out :
     variables-too = rw (← fine .as-many) (take-append-seam (p .store .words) us);
     sent-too = s;
     ends-alike = e;
+    next-too = λ yet. absurd (over-so yet);
     ended =
         λ _ b h. let all : p .count + (b - p .count) ≡ b = omega (arith, h) in
         ap (λ k. run os k start) (sym all)

@@ -2,6 +2,7 @@ pub mod CodeOrders
 pub mod Counts
 pub mod Doing
 pub mod Each
+pub mod Endings
 pub mod ExpressionAgain
 pub mod ExpressionRead
 pub mod Following
