@@ -19,6 +19,25 @@ extern "C" {
 #define SKIMP_NUMBER(result) ((uint32_t)((uint64_t)(result) >> 32))
 #define SKIMP_VALUE(result) ((uint32_t)((uint64_t)(result) & 0xffffffffu))
 
+/* Numbers that skimp_compile and skimp_read_back reply with, beside those from 21 to 25 below. */
+enum skimp_text_number {
+    SKIMP_ACCEPTED = 0,
+    SKIMP_SOURCE_TOO_LONG = 1,
+    SKIMP_BAD_BYTE = 2,
+    SKIMP_OPEN_AT_END = 3,
+    SKIMP_TOO_MANY_CELLS = 4,
+    SKIMP_UNKNOWN_KEYWORD = 5,
+    SKIMP_BAD_CONSTANT = 6,
+    SKIMP_NO_SUCH_FORM = 7,
+    SKIMP_BAD_NAME = 8,
+    SKIMP_BAD_LABEL = 9,
+    SKIMP_NO_END = 10,
+    SKIMP_OVER_LIMIT = 11,
+    SKIMP_OBJECT_TOO_SHORT = 12,
+    SKIMP_NO_SHEET = 31,
+    SKIMP_SHEET_TOO_SHORT = 32
+};
+
 /* Numbers that skimp_run replies with. */
 enum skimp_run_number {
     SKIMP_OUT_OF_BUDGET = 0,
@@ -49,6 +68,38 @@ enum skimp_run_number {
 /* the longest state of any object: 64 variables and 32 temporaries */
 #define SKIMP_STATE_MOST SKIMP_STATE_BYTES(64, 32)
 
+/* Compiles a source: writes the text of its object into the front of `object`.
+ *
+ * The number of the result is 0 exactly when the source is SKIMP within the limits and the buffer holds all of its object.
+ * The value is then the length of the object's text; the bytes behind it stay.
+ *
+ * Otherwise no byte of the buffer has changed, and the value is the place.
+ *    1  the source is longer than 16,384 bytes: place 0
+ *    2  a byte is not 10 or 32 to 126: its offset
+ *    3  the source ends in quotes, or in a continuation: the statement
+ *    4  a statement holds more than 256 cells: the statement
+ *    5  unknown keyword: the statement
+ *    6  invalid constant: the statement
+ *    7  no such form, or out of order: the statement
+ *    8  a name is unknown, declared twice, or SEND is misused: the statement
+ *    9  a label is 0 or over 9999, set twice, or never set: the statement; for one that is never set, that of the first jump
+ *   10  there is no %ENDOFPROGRAM: the number of statements read
+ *   11  over 64 variables, 64 set labels, 32 temporaries, or 1,024 orders with STOP: the statement
+ *   12  the buffer is too short for the object, and all else is well: place 0
+ * Statements count from 1; those of nothing are not counted. */
+uint64_t skimp_compile(const uint8_t *source, size_t source_len, uint8_t *object, size_t object_len);
+
+/* Reads an object back: writes the text of the one sheet that translates to it into the front of `sheet`.
+ *
+ * The number of the result is 0 exactly when there is such a sheet and the buffer holds all of its text. The value is then
+ * the length of the text; the bytes behind it stay.
+ *
+ * Otherwise no byte of the buffer has changed, and the value is the place.
+ *   21 to 25  the object is not good, as for skimp_run
+ *   31  the object is good, but no sheet translates to it: place 0
+ *   32  the buffer is too short for the sheet: place 0 */
+uint64_t skimp_read_back(const uint8_t *object, size_t object_len, uint8_t *sheet, size_t sheet_len);
+
 /* Runs an object from a state, for at most `budget` steps.
  *
  * The number of the result is
@@ -60,7 +111,8 @@ enum skimp_run_number {
  * first. All other bytes of the output stay. The output has room for output_len / 4 numbers, rounded down.
  *
  * A fault is met even with no budget left. A state that has ended takes no step and reports its ending again. To go on,
- * call again with the same object, state and output: a steps and then b steps do what a + b steps do.
+ * call again with the same object, state and output: a steps and then b steps do what a + b steps do, where a + b fits
+ * in 32 bits.
  *
  * Otherwise the call is refused: no byte of state or output has changed, and the value is the place.
  *   21  the header is not of the form or over a limit: place 0

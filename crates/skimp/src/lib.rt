@@ -1,26 +1,29 @@
-// The functions that the box's supervisor calls. include/skimp.h says in plain words what they do.
-mod run;
-
-use object_reader::Reading;
+// The functions that the box's supervisor calls. include/skimp.h says in plain words what they do, specs/Promises.antt what is
+// proved of them.
 ghost use mathlib.Core.Path.{_≡_};
-ghost use Rattle.skimp.specs.Run.{call, runCall};
+ghost use Rattle.call.specs.Reply.{wrote};
+ghost use Rattle.call.specs.Compile.{compileCall};
+ghost use Rattle.call.specs.ReadingBack.{readBackCall};
+ghost use Rattle.call.specs.Run.{call, runCall};
+
+#[no_mangle]
+pub extern "C" fn skimp_compile(source: &[u8], object: &mut [u8]) -> u64
+    ensures { λ r. ⌜ wrote r (now (object .exit)) ≡ compileCall (now (source .entry)) (now (object .entry)) ⌝ }
+{
+    call_compile::compile(source, object)
+}
+
+#[no_mangle]
+pub extern "C" fn skimp_read_back(object: &[u8], sheet: &mut [u8]) -> u64
+    ensures { λ r. ⌜ wrote r (now (sheet .exit)) ≡ readBackCall (now (object .entry)) (now (sheet .entry)) ⌝ }
+{
+    call_read_back::read_back(object, sheet)
+}
 
 #[no_mangle]
 pub extern "C" fn skimp_run(object: &[u8], state: &mut [u8], output: &mut [u8], budget: u32) -> u64
     ensures { λ r. ⌜ call r (now (state .exit)) (now (output .exit))
         ≡ runCall (now (object .entry)) (now (state .entry)) (now (output .entry)) budget ⌝ }
 {
-    let mut numbers = [0u8; order::MOST_ORDERS as usize];
-    let mut operands = [0u32; order::MOST_ORDERS as usize];
-    match object_reader::read(object, &mut numbers, &mut operands) {
-        Reading::Good(v, t, n) => {
-            let words = (v + t + 2) as usize;
-            run::run_orders(&numbers, &operands, words, n, state, output, budget)
-        },
-        Reading::Header => run::reply(21, 0),
-        Reading::Line(k) => run::reply(22, k),
-        Reading::Word(k) => run::reply(23, k),
-        Reading::Address(k) => run::reply(24, k),
-        Reading::Stop(k) => run::reply(25, k),
-    }
+    call_run::run(object, state, output, budget)
 }

@@ -1,0 +1,4 @@
+pub mod Texts
+pub mod Refused
+pub mod Resume
+pub mod Worked

@@ -1,0 +1,5 @@
+pub mod Reply
+pub mod Compile
+pub mod ReadingBack
+pub mod Run
+pub mod Answers
