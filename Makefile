@@ -11,7 +11,8 @@ test:
 edits:
 	@tools/edits $(CRATE)
 
-# What the project does so far: document 01's readings of word arithmetic, and its worked object run in slices.
+# What the project does so far: document 01's readings of word arithmetic; its worked object read back and run in slices; and
+# a source compiled, read back and run.
 demo:
 	@mkdir -p target
 	@rt check readings >target/demo.log 2>&1 || { cat target/demo.log; exit 1; }
@@ -19,6 +20,7 @@ demo:
 	@rt staticlib skimp >target/demo.log 2>&1 || { cat target/demo.log; exit 1; }
 	@$(MAKE) --no-print-directory target/demo/supervisor
 	@target/demo/supervisor -s 5 examples/worked.box
+	@target/demo/supervisor -s 10 examples/heater.skimp
 
 # The proved run's time for a step against that of plain Rust.
 bench:

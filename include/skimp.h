@@ -68,6 +68,22 @@ enum skimp_run_number {
 /* the longest state of any object: 64 variables and 32 temporaries */
 #define SKIMP_STATE_MOST SKIMP_STATE_BYTES(64, 32)
 
+/* The longest texts. A buffer of SKIMP_OBJECT_MOST bytes is never too short for an object, nor one of SKIMP_SHEET_MOST bytes
+ * for a sheet: with them skimp_compile never replies 12 and skimp_read_back never 32. */
+#define SKIMP_OBJECT_MOST 18469
+#define SKIMP_SHEET_MOST 32768
+
+/* The stack that a call needs: its own frame and all below it. These numbers are not proved but measured, on the inputs found
+ * to need most and the archive built for x86-64, with a tenth more and rounded up to a KiB. Compile and read-back work
+ * recursively. Compile needs most, some 194,000 bytes, for brackets opened up to the last cell of a statement; read-back needs
+ * most, some 331,000 bytes, for 1,022 orders such as NEG in a row. A run needs some 6,500 bytes whatever the object. A task that
+ * makes a call must have a stack of as many bytes to spare. */
+#define SKIMP_COMPILE_STACK_BYTES 214016
+#define SKIMP_READ_BACK_STACK_BYTES 364544
+#define SKIMP_RUN_STACK_BYTES 7168
+/* enough for every call */
+#define SKIMP_STACK_BYTES 364544
+
 /* Compiles a source: writes the text of its object into the front of `object`.
  *
  * The number of the result is 0 exactly when the source is SKIMP within the limits and the buffer holds all of its object.

@@ -18,8 +18,8 @@ use Rattle.order.proofs.RoundTrip.{read-good}
 use Rattle.order.proofs.Refusals.{refused-bounded}
 use Rattle.machine.specs.declared.Registers.{Registers}
 use Rattle.machine.specs.Machine.{machine, Run, ran, run}
-use Rattle.machine.proofs.Effects.{Words}
-use Rattle.machine.proofs.Invariants.{Ending, Bytes, operands-small}
+use Rattle.machine.specs.Frame.{Ending, Bytes, Words}
+use Rattle.machine.proofs.Invariants.{operands-small}
 use Rattle.machine.proofs.Resume.{resume, within-budget}
 use Rattle.machine.proofs.Frame.{lengths-stay, sent-within-room, ending-known, words-stay, next-inside}
 use Rattle.skimp_state.specs.State.{numberAt, registersOf, wordsAt, stateBytes}
@@ -67,14 +67,14 @@ unfolding isEnding pick
 is-ending e (inl h) = rw (lt-ltb e 5 (omega arith)) refl
 is-ending e (inr h) = rw h refl
 
-fit-of : (n room : ℕ) (r : Registers) → registersFit n room r ≡ true → (r .next < n) × (r .sent ≤ room) × Ending (r .ending)
+pub fit-of : (n room : ℕ) (r : Registers) → registersFit n room r ≡ true → (r .next < n) × (r .sent ≤ room) × Ending (r .ending)
 unfolding registersFit
 fit-of n room r e =
     let a = both-yes (ltb (r .next) n) _ e in
     let b = both-yes (leb (r .sent) room) _ (a .1) in
     (ltb-true (r .next) n (a .0), leb-true (r .sent) room (b .0), ending-of (r .ending) (b .1))
 
-fit-again : (n room : ℕ) (r : Registers) → (r .next < n) × (r .sent ≤ room) × Ending (r .ending) → registersFit n room r ≡ true
+pub fit-again : (n room : ℕ) (r : Registers) → (r .next < n) × (r .sent ≤ room) × Ending (r .ending) → registersFit n room r ≡ true
 unfolding registersFit pick
 fit-again n room r f = rw (lt-ltb (r .next) n (f .0), le-leb (r .sent) room (f .1)) (is-ending (r .ending) (f .2))
 
@@ -103,19 +103,19 @@ module _
 
     -- the first run's end
     module _ (k : ℕ) (q : Registers) (vs left : List ℕ) (e : run os a (machine (registersOf state) (wordsAt (v + t + 2) 20 state) output) ≡ ran k (machine q vs left)) where
-      lengths : (length vs ≡ v + t + 2) × (length left ≡ length output)
+      pub lengths : (length vs ≡ v + t + 2) × (length left ≡ length output)
       lengths =
           let kept = lengths-stay os a (registersOf state) (wordsAt (v + t + 2) 20 state) output k q vs left e in
           (kept .0 ∙ length-words (v + t + 2) 20 state, kept .1)
 
-      fit-left : (q .next < length os) × (q .sent ≤ length left / 4) × Ending (q .ending)
+      pub fit-left : (q .next < length os) × (q .sent ≤ length left / 4) × Ending (q .ending)
       fit-left = (
         next-inside os a (registersOf state) (wordsAt (v + t + 2) 20 state) output k q vs left e v t good (fit .0),
         sent-within-room os a (registersOf state) (wordsAt (v + t + 2) 20 state) output k q vs left e (fit .1),
         ending-known os a (registersOf state) (wordsAt (v + t + 2) 20 state) output k q vs left e (fit .2),
       )
 
-      words-left : (q .acc < 4294967296) × Words vs
+      pub words-left : (q .acc < 4294967296) × Words vs
       words-left =
           words-stay
           os
@@ -132,10 +132,10 @@ module _
           (number-small state 0 bytes)
           (words-small (v + t + 2) 20 state bytes)
 
-      low-ending : q .ending < 21
+      pub low-ending : q .ending < 21
       low-ending = ⊎-elim (λ (h : q .ending ≤ 4). omega arith) (λ (h : q .ending ≡ 20). omega arith) (fit-left .2)
 
-      held : Held q
+      pub held : Held q
       held = record {
         acc = words-left .0;
         next = omega (arith, fit-left .0, good .few-orders);
@@ -150,7 +150,7 @@ module _
           rw (eq-eqb (length (stateBytes q vs)) (20 + 4 * (v + t + 2)) (omega (arith, length-state q vs, lengths .0)), registers-again q vs held)
           (fit-again (length os) (length left / 4) q fit-left)
 
-      words-kept : wordsAt (v + t + 2) 20 (stateBytes q vs) ≡ vs
+      pub words-kept : wordsAt (v + t + 2) 20 (stateBytes q vs) ≡ vs
       words-kept = ap (λ n. wordsAt n 20 (stateBytes q vs)) (sym (lengths .0)) ∙ words-again q vs (words-left .1)
 
       second-call : objectCall (v + t + 2) (length os) os (stateBytes q vs) left b ≡ ranCall (run os b (machine q vs left))
@@ -199,13 +199,13 @@ module _
 -- ---- any two calls
 
 module _ (words n : ℕ) (os : List Order) (state output : List ℕ) (budget : ℕ) where
-  fitting :
+  pub fitting :
       stateFits words n state output ≡ true
       → objectCall words n os state output budget ≡ ranCall (run os budget (machine (registersOf state) (wordsAt words 20 state) output))
   unfolding objectCall pick
   fitting e = rw e refl
 
-  unfit : stateFits words n state output ≡ false → objectCall words n os state output budget ≡ refusedCall 26 0 state output
+  pub unfit : stateFits words n state output ≡ false → objectCall words n os state output budget ≡ refusedCall 26 0 state output
   unfolding objectCall pick
   unfit e = rw e refl
 

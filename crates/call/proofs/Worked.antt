@@ -9,7 +9,7 @@ use Rattle.base.specs.Front.{onFront}
 use Rattle.base.proofs.Lists.{getD-repeated}
 use Rattle.word.specs.Word.{wrap, signed, word, difference, quotient, comparison}
 use Rattle.text.specs.Pieces.{fixed, digits, numeral}
-use Rattle.order.specs.Order.{shapes}
+use Rattle.order.specs.Order.{table}
 use Rattle.order.specs.Object.{withinLimits, headerAt, recordAmong, recordAt, linesAt}
 use Rattle.order.specs.Object.{firstStop, firstOperand, stopLast, exactly, reading}
 use Rattle.machine.specs.Machine.{send, run}
@@ -38,5 +38,5 @@ pub worked-call :
     (0 ∷ 0 ∷ 0 ∷ 3 ∷ 0 ∷ 0 ∷ 0 ∷ 20 ∷ 0 ∷ 0 ∷ 0 ∷ 0 ∷ 0 ∷ 0 ∷ 0 ∷ 1 ∷ 0 ∷ 0 ∷ 0 ∷ 20
     ∷ 0 ∷ 0 ∷ 0 ∷ 0 ∷ 0 ∷ 0 ∷ 0 ∷ 0 ∷ 0 ∷ 0 ∷ 0 ∷ 3 ∷ 0 ∷ 0 ∷ 0 ∷ 4 ∷ 0 ∷ 0 ∷ 0 ∷ 3 ∷ 255 ∷ 255 ∷ 255 ∷ 255 ∷ [])
     (0 ∷ 0 ∷ 0 ∷ 3 ∷ replicate 5 255)
-unfolding bytes pick shapes onFront fixed digits numeral withinLimits headerAt recordAmong recordAt linesAt firstStop firstOperand stopLast exactly reading wrap signed word difference quotient comparison send run numberAt numberBytes wordsAt registerBytes wordsBytes stateBytes isEnding registersFit stateFits objectCall runCall
+unfolding bytes pick table onFront fixed digits numeral withinLimits headerAt recordAmong recordAt linesAt firstStop firstOperand stopLast exactly reading wrap signed word difference quotient comparison send run numberAt numberBytes wordsAt registerBytes wordsBytes stateBytes isEnding registersFit stateFits objectCall runCall
 worked-call = refl

@@ -7,14 +7,15 @@ use native.Mathlib.Omega.{arith}
 use borrow.Author.Tests.{le-leb}
 use lib.ListN.{length}
 use Rattle.base.specs.Choice.{pick}
-use Rattle.order.specs.Order.{number, operand, ordersFrom}
+use Rattle.order.specs.Order.{operand}
+use Rattle.order.specs.Memory.{number, ordersFrom}
 use Rattle.order.specs.Limits.{mostOrders}
 use Rattle.order.specs.Object.{text}
 use Rattle.order.proofs.Arrays.{arrays-hold}
 use Rattle.sheet.specs.Sheet.{Sheet, variables}
 use Rattle.sheet.specs.Within.{Within}
 use Rattle.sheet.specs.Translation.{translation, sheetTemporaries, objectText}
-use Rattle.translate.specs.Answers.{withinLimits, whole, over, answerFor, filledFor}
+use Rattle.translate.specs.Answers.{withinLimits, whole, refusal, answerFor, filledFor}
 use Rattle.call.specs.Reply.{wrote, textWriting}
 
 module _ (s : Sheet) (w : Within s) where
@@ -27,7 +28,7 @@ module _ (s : Sheet) (w : Within s) where
   answer-whole = rw limits-kept refl
 
   -- a sheet within the limits is not over them
-  pub never-over : {A : Type 0} → over ≡ answerFor s → A
+  pub never-over : {A : Type 0} → refusal 11 ≡ answerFor s → A
   never-over e = let z = e ∙ answer-whole in let y : _≡_ {A = ℕ} 0 1 = cc in absurd (omega (arith, y))
 
   pub temporaries-told : (t n : ℕ) → whole t n ≡ answerFor s → (t ≡ sheetTemporaries s) × (n ≡ length (translation s))

@@ -6,7 +6,7 @@ use order::MOST_ORDERS;
 use sheet_field::MOST_FIELDS;
 use translate::Translated;
 ghost use mathlib.Core.Path.{_≡_};
-ghost use Rattle.order.specs.Order.{ordersFrom};
+ghost use Rattle.order.specs.Memory.{ordersFrom};
 ghost use Rattle.order.specs.Object.{text};
 ghost use Rattle.call.specs.Reply.{wrote, textWriting};
 ghost use Rattle.call.specs.Compile.{compileCall};

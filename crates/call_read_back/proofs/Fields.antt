@@ -8,8 +8,11 @@ use lib.ListN.{length, getD, take, drop, length-drop, drop-of-length-le}
 use lib.Seq.{getD-drop, take-all}
 use Rattle.sheet_field.specs.Memory.{fieldOf, fieldsFrom, mostFields}
 use Rattle.sheet.specs.Sheet.{Sheet, variables, instructions}
-use Rattle.sheet.specs.Fields.{sheetFields}
+use Rattle.sheet.specs.Fields.{sheetFields, sheetText}
 use Rattle.sheet_text.specs.Answers.{InMemory}
+use Rattle.sheet_text.specs.TextOfFields.{textOfFields}
+use Rattle.sheet_text.proofs.Flat.{flat-memory}
+use Rattle.call.specs.Reply.{wrote, textWriting}
 
 fields-behind : (ks vs : List ℕ) (from k n : ℕ) → fieldsFrom k n (drop from ks) (drop from vs) ≡ fieldsFrom (from + k) n ks vs
 unfolding fieldsFrom
@@ -44,3 +47,11 @@ in-rest s ks vs own carried from v count f g size e few many =
       its-variables = few;
       its-instructions = many;
     }
+
+-- the text of its fields is the sheet's
+pub sheet-written :
+    (s : Sheet) (ks vs : List ℕ) (n v count : ℕ) (before : List ℕ) (r : ℕ) (after : List ℕ)
+    → InMemory s ks vs n v count
+    → wrote r after ≡ textWriting 32 (textOfFields v count (fieldsFrom 0 n ks vs)) before
+    → wrote r after ≡ textWriting 32 (sheetText s) before
+sheet-written s ks vs n v count before r after m e = e ∙ ap (λ l. textWriting 32 l before) (flat-memory s ks vs n v count m)

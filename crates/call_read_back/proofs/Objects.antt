@@ -9,7 +9,8 @@ use Rattle.base.specs.Front.{found, missing}
 use Rattle.base.proofs.Cases.{either-part}
 use Rattle.order.specs.declared.Order.{Order}
 use Rattle.order.specs.Limits.{mostVariables, mostOrders}
-use Rattle.order.specs.Order.{number, operand, ordersFrom}
+use Rattle.order.specs.Order.{operand}
+use Rattle.order.specs.Memory.{number, ordersFrom}
 use Rattle.order.specs.Object.{Reading, object, refused, reading, linesOf}
 use Rattle.order.specs.Good.{Good}
 use Rattle.order.proofs.RoundTrip.{read-good, lines-read}
@@ -21,7 +22,7 @@ use Rattle.sheet.specs.ReadBack.{Back, instructionsAt, renumbered, Given, given
 use Rattle.sheet_field.specs.Memory.{fieldsFrom, mostFields}
 use Rattle.untranslate.specs.declared.Untranslated.{Untranslated}
 use Rattle.untranslate.specs.declared.Untranslated.the-variants.{Sheet as SheetIs, Missing}
-use Rattle.untranslate.specs.Answers.{Offer, fieldsOfSheet, nothing, readOff, offered}
+use Rattle.untranslate.specs.Answers.{Offer, fieldsOfSheet, refusal, readOff, offered}
 use Rattle.object_reader.specs.Answers.{good, verdictOf}
 use Rattle.call.specs.Reply.{reply, wrote, textWriting}
 use Rattle.call.specs.ReadingBack.{sheetCall, objectSheetCall, readBackCall}
@@ -32,15 +33,15 @@ use Rattle.call_read_back.specs.Internal.{SheetWritten}
 
 abbrev which : Offer → ℕ
 which (fieldsOfSheet count fs) = 0
-which nothing = 1
+which (refusal n place) = 1
 
 abbrev countOf : Offer → ℕ
 countOf (fieldsOfSheet count fs) = count
-countOf nothing = 0
+countOf (refusal n place) = 0
 
 abbrev fieldsOr : List Field → Offer → List Field
 fieldsOr d (fieldsOfSheet count fs) = fs
-fieldsOr d nothing = d
+fieldsOr d (refusal n place) = d
 
 -- what untranslate gives has its V
 abbrev HasVariables : ℕ → Given → Type 0
@@ -67,7 +68,7 @@ written-for v from count (given s) ks vs before r after has size e written =
 written-for v from count none ks vs before r after has size e written =
     let z : _≡_ {A = ℕ} 0 1 = ap which e in absurd (omega (arith, z))
 
-missing-for : (g : Given) (buffer : List ℕ) → nothing ≡ offered g → wrote (reply 31 0) buffer ≡ sheetCall g buffer
+missing-for : (g : Given) (buffer : List ℕ) → refusal 31 0 ≡ offered g → wrote (reply 31 0) buffer ≡ sheetCall g buffer
 missing-for (given s) buffer e = let z : _≡_ {A = ℕ} 1 0 = ap which e in absurd (omega (arith, z))
 missing-for none buffer e = refl
 

@@ -10,7 +10,7 @@ ghost use mathlib.Core.Path.{_≡_};
 ghost use Prim.Native.Nat.{_≤_};
 ghost use lib.ListN.{drop};
 ghost use Rattle.order.specs.Limits.{mostVariables, mostOrders};
-ghost use Rattle.order.specs.Order.{ordersFrom};
+ghost use Rattle.order.specs.Memory.{ordersFrom};
 ghost use Rattle.sheet.specs.ReadBack.{untranslate};
 ghost use Rattle.call.specs.Reply.{wrote};
 ghost use Rattle.call.specs.ReadingBack.{sheetCall, readBackCall};

@@ -12,7 +12,8 @@ use Rattle.base.proofs.Cases.{by-less, pick-yes, both-yes}
 use Rattle.base.proofs.Lists.{sets-append, sets-whole, getD-sets, getD-sets-behind}
 use Rattle.order.specs.declared.Order.{Order}
 use Rattle.order.specs.declared.Order.the-variants.{Stop}
-use Rattle.order.specs.Order.{number, operand, orderOf, ordersOf}
+use Rattle.order.specs.Order.{operand}
+use Rattle.order.specs.Memory.{number, orderOf, ordersOf}
 use Rattle.order.specs.Object.{Reading, object, refused, reading, linesOf}
 use Rattle.order.specs.Good.{Good}
 use Rattle.order.proofs.Numbers.{orders-again, ordersOf-at}

@@ -12,7 +12,7 @@ ghost use mathlib.Core.Path.{_≡_};
 ghost use Prim.Native.Nat.{_+_, _*_, _≤_};
 ghost use lib.ListN.{length};
 ghost use Rattle.order.specs.Limits.{mostWords};
-ghost use Rattle.order.specs.Order.{ordersOf};
+ghost use Rattle.order.specs.Memory.{ordersOf};
 ghost use Rattle.machine.specs.Machine.{machine, run as spec-run};
 ghost use Rattle.skimp_state.specs.State.{registersOf, wordsAt};
 ghost use Rattle.call.specs.Run.{call, runCall, ranCall, objectCall, isEnding, registersFit, stateFits};

@@ -5,6 +5,7 @@ use mathlib.Core.Path.{_≡_, refl, ap, _∙_}
 use mathlib.Core.Bool.{true, false}
 use mathlib.Core.List.{List, []}
 use native.Mathlib.Omega.{arith}
+use native.Mathlib.Numerals.{add-one}
 use lib.ListN.{length, getD, take, drop, drop-of-length-le}
 use Rattle.base.specs.Choice.{pick}
 use Rattle.base.proofs.Lists.{drop-more}
@@ -15,6 +16,7 @@ use Rattle.source.specs.Source.{offset, allAllowed, isAllowed, notAllowed}
 use Rattle.cells.specs.declared.byte.Ending.the-variants.{Whole, Nothing, Cut as CutEnd}
 use Rattle.cells.specs.declared.Step.the-variants.{On, Ends, Over}
 use Rattle.cells.specs.declared.Reading.the-variants.{Statement, Ended, Cut}
+use Rattle.cells.specs.Answers.{stopped, offsetBehind}
 use Rattle.cells.specs.Internal.{endingOf, lastHeld, Stepped, Gathered}
 use Rattle.cells.proofs.Changes.{EndFits, end-fits}
 use Rattle.cells.proofs.Steps.{ends-as}
@@ -39,19 +41,25 @@ module _ (s : List ℕ) (i : ℕ) where
 -- what holds before each byte
 pub record Reads (s : List ℕ) (at : ℕ) (cells : List ℕ) (m : Mode) (held i : ℕ) : Type 0 where
   pub same : statementsFrom m (take held cells) (drop i s) ≡ statementsFrom Plain [] (drop at s)
+  pub behind : offsetBehind i m (take held cells) (drop i s) ≡ offsetBehind at Plain [] (drop at s)
   pub room : 256 ≤ length cells
   pub few : held ≤ 256
   pub on : at + held ≤ i
   pub inside : i ≤ length s + (at - length s)
 
 pub reads-first : (s : List ℕ) (at : ℕ) (cells : List ℕ) → 256 ≤ length cells → Reads s at cells Plain 0 at
-reads-first s at cells room = record { same = refl; room = room; few = omega arith; on = omega arith; inside = omega arith }
+reads-first s at cells room = record { same = refl; behind = refl; room = room; few = omega arith; on = omega arith; inside = omega arith }
 
 module _ (s : List ℕ) (at : ℕ) (cells : List ℕ) (m : Mode) (held i : ℕ) (reads : Reads s at cells m held i) where
   here : i < length s → onTurn (turn m (getD s i 0) (take held cells)) (λ n cs. statementsFrom n cs (drop (i + 1) s))
       ≡ statementsFrom Plain [] (drop at s)
   unfolding statementsFrom
   here h = (rw (drop-more s i 0 h) at (reads .same))
+
+  stops : i < length s → stopped (turn m (getD s i 0) (take held cells)) (suc i) (λ n cs. offsetBehind (suc i) n cs (drop (i + 1) s))
+      ≡ offsetBehind at Plain [] (drop at s)
+  unfolding offsetBehind
+  stops h = (rw (drop-more s i 0 h) at (reads .behind))
 
   pub reads-turn : (cells′ : List ℕ) (n : Mode) (k : ℕ) → i < length s → length cells′ ≡ length cells
       → Stepped cells′ held (On n k) (turn m (getD s i 0) (take held cells)) → Reads s at cells′ n k (i + 1)
@@ -63,6 +71,10 @@ module _ (s : List ℕ) (at : ℕ) (cells : List ℕ) (m : Mode) (held i : ℕ) 
       let more : k ≤ held + 1 = step .bounded .1 in
       record {
         same = ap (λ t. onTurn t (λ n cs. statementsFrom n cs (drop (i + 1) s))) (step .same) ∙ here h;
+        behind =
+            ap (λ j. offsetBehind j n (take k cells′) (drop (i + 1) s)) (add-one i)
+            ∙ ap (λ t. stopped t (suc i) (λ n cs. offsetBehind (suc i) n cs (drop (i + 1) s))) (step .same)
+            ∙ stops h;
         room = omega arith;
         few = step .bounded .0;
         on = omega arith;
@@ -76,7 +88,14 @@ module _ (s : List ℕ) (at : ℕ) (cells : List ℕ) (m : Mode) (held i : ℕ) 
       let on : at + held ≤ i = reads .on in
       record {
         same = ap (λ t. onTurn t (λ n cs. statementsFrom n cs (drop (i + 1) s))) (step .same) ∙ here h;
-        moved = record { forward = omega arith; inside = omega arith; some = step .bounded .0; few = step .bounded .1 };
+        moved =
+            record {
+              behind = add-one i ∙ ap (λ t. stopped t (suc i) (λ n cs. offsetBehind (suc i) n cs (drop (i + 1) s))) (step .same) ∙ stops h;
+              forward = omega arith;
+              inside = omega arith;
+              some = step .bounded .0;
+              few = step .bounded .1;
+            };
       }
 
   pub statement-over : (cells′ : List ℕ) → i < length s → Stepped cells′ held Over (turn m (getD s i 0) (take held cells))
@@ -96,6 +115,10 @@ module _ (s : List ℕ) (at : ℕ) (cells : List ℕ) (m : Mode) (held i : ℕ) 
     unfolding statementsFrom sourceEnd pick
     nothing-left = rw (drop-of-length-le s over)
 
+    no-byte : i ≡ offsetBehind at Plain [] (drop at s)
+    unfolding offsetBehind
+    no-byte = (rw (drop-of-length-le s over) at (reads .behind))
+
     pub last-statement : endingOf m held (lastHeld held cells) ≡ Whole → Gathered s at cells held (Statement i)
     last-statement told =
         let fits : EndFits held Whole = (rw told at (end-fits held (lastHeld held cells) m)) in
@@ -104,7 +127,7 @@ module _ (s : List ℕ) (at : ℕ) (cells : List ℕ) (m : Mode) (held i : ℕ) 
         let inside : i ≤ length s + (at - length s) = reads .inside in
         record {
           same = ap (_then_ (take held cells)) nothing-left ∙ ends-as cells held (reads .room) (reads .few) m Whole told ∙ at-last;
-          moved = record { forward = omega arith; inside = omega arith; some = some; few = fits .1 };
+          moved = record { behind = no-byte; forward = omega arith; inside = omega arith; some = some; few = fits .1 };
         }
 
     pub no-statement : endingOf m held (lastHeld held cells) ≡ Nothing → Gathered s at cells held Ended

@@ -4,7 +4,7 @@ use mathlib.Core.Path.{_≡_}
 use mathlib.Core.Bool.{Bool, true}
 use mathlib.Core.List.{List, []}
 use lib.Dec.{ltb, eqb}
-use lib.ListN.{length, getD, take, drop}
+use lib.ListN.{getD, take, drop}
 use Rattle.base.specs.Choice.{pick}
 use Rattle.source.specs.declared.Mode.{Mode}
 use Rattle.source.specs.declared.Mode.the-variants.{Plain, Keyword, Quoted, Comment}
@@ -111,4 +111,4 @@ pub record Stepped (cells : List ℕ) (held : ℕ) (r : Step) (t : Turn) : Type 
 -- the cells that an array holds from the place `at` of a source on, and what they are
 pub record Gathered (s : List ℕ) (at : ℕ) (cells : List ℕ) (n : ℕ) (r : Reading) : Type 0 where
   pub same : following s (take n cells) r ≡ statementsFrom Plain [] (drop at s)
-  pub moved : MovedTo at (length s) n r
+  pub moved : MovedTo s at n r

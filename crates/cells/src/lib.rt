@@ -14,7 +14,7 @@ ghost use Rattle.source.specs.declared.Mode.the-variants.{Plain};
 ghost use Rattle.source.specs.Limits.{mostCells};
 ghost use Rattle.source.specs.Cells.{turn, statementsFrom};
 ghost use Rattle.source.specs.Source.{isAllowed, notAllowed};
-ghost use Rattle.cells.specs.Answers.{foundAt, unrolled, Moved};
+ghost use Rattle.cells.specs.Answers.{found, foundOf, unrolled, Moved};
 ghost use Rattle.cells.specs.Internal.{lastHeld, Stepped, Gathered};
 
 // The offset of the first byte that is not allowed, if there is one.
@@ -64,7 +64,7 @@ fn is_allowed(b: u8) -> bool
 
 // The first byte that is not allowed.
 pub fn not_allowed(source: &[u8]) -> Found
-    ensures { λ r. ⌜ foundAt r ≡ notAllowed 0 (now (source .entry)) ⌝ }
+    ensures { λ r. ⌜ found r ≡ foundOf (notAllowed 0 (now (source .entry))) ⌝ }
 {
     let mut i = 0;
     while i < source.len() {
@@ -147,10 +147,11 @@ fn gather(source: &[u8], at: usize, cells: &mut [u8]) -> Gathering
     }
 }
 
-// The next statement from an offset on.
+// The next statement from an offset on. Free is what the array holds behind the statement's cells, and all of it, with its
+// length, where there is no statement.
 pub fn next_statement(source: &[u8], at: usize) -> Next
     ensures read { λ r. ⌜ unrolled (now (source .entry)) r ≡ statementsFrom Plain [] (drop at (now (source .entry))) ⌝ }
-    ensures moved { λ r. ⌜ Moved at (length (now (source .entry))) r ⌝ }
+    ensures moved { λ r. ⌜ Moved (now (source .entry)) at r ⌝ }
 {
     let mut cells = [0u8; MOST_CELLS];
     let gathering = gather(source, at, &mut cells);

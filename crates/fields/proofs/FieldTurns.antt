@@ -5,26 +5,28 @@ use mathlib.Core.Path.{_≡_, refl, sym, ap, ap₂, _∙_}
 use mathlib.Core.List.{List, [], _∷_, _++_, map, append-nil, append-assoc}
 use native.Mathlib.Omega.{arith}
 use native.Mathlib.Nat.{sub-zero}
-use borrow.Author.Tests.{eq-eqb, ne-eqb}
-use lib.Dec.{eqb}
+use borrow.Author.Tests.{eq-eqb, ne-eqb, le-leb, lt-leb}
+use lib.Dec.{leb, eqb}
 use lib.ListN.{length, getD, set}
 use lib.Seq.{getD-set-same, getD-set-other}
 use Rattle.base.specs.Choice.{pick}
 use Rattle.base.specs.Places.{each}
-use Rattle.base.proofs.Cases.{by-test}
+use Rattle.base.proofs.Cases.{by-test, by-less}
 use Rattle.base.proofs.Lists.{map-at}
 use Rattle.base.proofs.Places.{each-more, each-over, each-append, each-same, each-map}
 use Rattle.sheet.specs.declared.Field.{Field}
 use Rattle.sheet.specs.declared.Field.the-variants.{Else, Then, Send, Neg, Not, Binary, If, Word, Constant, Set, Goto}
 use Rattle.sheet_field.specs.Memory.{shapes, fieldOf, fieldsFrom}
 use Rattle.sheet_field.proofs.Stored.{fields-each, fields-length}
-use Rattle.source.specs.Program.{isKnown, allKnown, isLabel, all, jumpsIn, Label, numberOf}
+use Rattle.source.specs.Program.{isLabel, all, Label, numberOf}
 use Rattle.fields.specs.declared.Jump.{Jump}
 use Rattle.fields.specs.declared.Jump.the-variants.{To, Missing}
-use Rattle.fields.specs.declared.Led.{Led}
-use Rattle.fields.specs.declared.Led.the-variants.{All, Unset}
+use Rattle.fields.specs.declared.Way.{Way}
+use Rattle.fields.specs.declared.Way.the-variants.{On, Unset}
 use Rattle.fields.specs.Internal.{LeadsOne, fieldIn, goodJump, packedValue}
-use Rattle.fields.specs.Answers.{Appended, jumpOf, packedField, LedFields, led, unsetIn, behindField, ledOne, ledAll}
+use Rattle.fields.specs.Memory.{fieldKnown, fieldsKnown, jumpOf, withJump, fieldJumps, packedField}
+use Rattle.fields.specs.Answers.{fields, noRoom, fit, putOf, LedFields, led, refusal, behindField, ledOne, ledAll, told, unfit, ledOf}
+use Rattle.fields.specs.Internal.{Appended}
 
 -- ---- a test of every field
 
@@ -32,25 +34,19 @@ unfoldable pub every : (Field → Bool) → List Field → Bool
 every test [] = true
 every test (f ∷ fs) = pick (test f) (every test fs) false
 
-pub known-every : (fs : List Field) → every isKnown fs ≡ allKnown fs
-unfolding every allKnown
+pub known-every : (fs : List Field) → every fieldKnown fs ≡ fieldsKnown fs
+unfolding every fieldsKnown
 known-every [] = refl
-known-every (f ∷ fs) = ap (λ r. pick (isKnown f) r false) (known-every fs)
+known-every (f ∷ fs) = ap (λ r. pick (fieldKnown f) r false) (known-every fs)
 
-pub jumps-every : (fs : List Field) → every (λ f. goodJump (jumpOf f)) fs ≡ all isLabel (jumpsIn fs)
-unfolding every all jumpsIn pick
-jumps-every [] = refl
-jumps-every (Else ∷ fs) = jumps-every fs
-jumps-every (Then ∷ fs) = jumps-every fs
-jumps-every (Send ∷ fs) = jumps-every fs
-jumps-every (Neg ∷ fs) = jumps-every fs
-jumps-every (Not ∷ fs) = jumps-every fs
-jumps-every (Binary o ∷ fs) = jumps-every fs
-jumps-every (If r ∷ fs) = jumps-every fs
-jumps-every (Word w ∷ fs) = jumps-every fs
-jumps-every (Constant n ∷ fs) = jumps-every fs
-jumps-every (Set w ∷ fs) = jumps-every fs
-jumps-every (Goto l ∷ fs) = ap (λ r. pick (isLabel l) r false) (jumps-every fs)
+pub jumps-every : (fs : List Field) → every (λ f. goodJump (jumpOf f)) fs ≡ all isLabel (fieldJumps fs)
+unfolding every fieldJumps
+jumps-every [] = unfold all in refl
+jumps-every (f ∷ fs) = ap (λ r. pick (goodJump (jumpOf f)) r false) (jumps-every fs) ∙ by-jump (jumpOf f)
+  where
+    by-jump : (j : Jump) → pick (goodJump j) (all isLabel (fieldJumps fs)) false ≡ all isLabel (withJump j (fieldJumps fs))
+    by-jump (To l) = unfold all in refl
+    by-jump Missing = unfold pick in refl
 
 module _ (test : Field → Bool) (ks vs : List ℕ) (n : ℕ) where
   pub every-first : every test (each (fieldIn ks vs) 0 (n - 0)) ≡ every test (fieldsFrom 0 n ks vs)
@@ -158,7 +154,7 @@ module _ (ls : List Label) (f : Field) where
   lead-none e = rw e refl
 
   module _ (p : ℕ) (e : jumpOf f ≡ To p) where
-    pub lead-unset : numberOf ls (p % 16384) ≡ 0 → unsetIn (p / 16384) ≡ ledOne ls f (jumpOf f) (led [])
+    pub lead-unset : numberOf ls (p % 16384) ≡ 0 → refusal 9 (p / 16384) ≡ ledOne ls f (jumpOf f) (led [])
     unfolding pick
     lead-unset z = rw (e, eq-eqb (numberOf ls (p % 16384)) 0 z) refl
 
@@ -170,25 +166,25 @@ module _ (ls : List Label) (f : Field) where
 
 abbrev pub prefixed : List Field → LedFields → LedFields
 prefixed fs (led gs) = led (fs ++ gs)
-prefixed fs (unsetIn k) = unsetIn k
+prefixed fs (refusal m k) = refusal m k
 
 pub prefix-none : (l : LedFields) → prefixed [] l ≡ l
 prefix-none (led fs) = refl
-prefix-none (unsetIn k) = refl
+prefix-none (refusal m k) = refl
 
 prefix-more : (fs : List Field) (g : Field) (l : LedFields) → prefixed (fs ++ g ∷ []) l ≡ prefixed fs (behindField g l)
 prefix-more fs g (led gs) = ap led (append-assoc fs (g ∷ []) gs)
-prefix-more fs g (unsetIn k) = refl
+prefix-more fs g (refusal m k) = refl
 
 abbrev headOr : Field → LedFields → Field
 headOr d (led []) = d
 headOr d (led (f ∷ fs)) = f
-headOr d (unsetIn k) = d
+headOr d (refusal m k) = d
 
 -- a field that is led alone is led before others
 abbrev ledNumber : LedFields → ℕ
 ledNumber (led fs) = 1
-ledNumber (unsetIn k) = 0
+ledNumber (refusal m k) = 0
 
 led-before : (ls : List Label) (f g : Field) (j : Jump) (more : LedFields) → led (g ∷ []) ≡ ledOne ls f j (led []) → behindField g more ≡ ledOne ls f j more
 unfolding pick
@@ -199,7 +195,7 @@ led-before ls f g (To p) more e =
     (λ t. let z : _≡_ {A = ℕ} 1 0 = ap ledNumber (rw t at e) in absurd (omega arith))
     (λ t. rw t (ap (λ h. behindField h more) (ap (headOr f) (rw t at e))))
 
-unset-before : (ls : List Label) (f : Field) (k : ℕ) (j : Jump) (more : LedFields) → unsetIn k ≡ ledOne ls f j (led []) → unsetIn k ≡ ledOne ls f j more
+unset-before : (ls : List Label) (f : Field) (k : ℕ) (j : Jump) (more : LedFields) → refusal 9 k ≡ ledOne ls f j (led []) → refusal 9 k ≡ ledOne ls f j more
 unfolding pick
 unset-before ls f k Missing more e = let z : _≡_ {A = ℕ} 0 1 = ap (λ l. ledNumber l) e in absurd (omega arith)
 unset-before ls f k (To p) more e =
@@ -226,8 +222,8 @@ module _ (ls : List Label) (ks vs after : List ℕ) (n i : ℕ) (h : i < n) (oth
       (prefixed (each (fieldIn ks vs) 0 i))
       (led-before ls (fieldIn ks vs i) (fieldIn ks after i) (jumpOf (fieldIn ks vs i)) (ledAll ls (each (fieldIn ks vs) (i + 1) (n - (i + 1)))) e))
 
-  pub lead-fails : (k : ℕ) → unsetIn k ≡ ledOne ls (fieldIn ks vs i) (jumpOf (fieldIn ks vs i)) (led [])
-      → unsetIn k ≡ prefixed (each (fieldIn ks vs) 0 i) (ledAll ls (each (fieldIn ks vs) i (n - i)))
+  pub lead-fails : (k : ℕ) → refusal 9 k ≡ ledOne ls (fieldIn ks vs i) (jumpOf (fieldIn ks vs i)) (led [])
+      → refusal 9 k ≡ prefixed (each (fieldIn ks vs) 0 i) (ledAll ls (each (fieldIn ks vs) i (n - i)))
   unfolding ledAll
   lead-fails k e =
       rw (each-more (fieldIn ks vs) i n h, ← unset-before ls (fieldIn ks vs i) k (jumpOf (fieldIn ks vs i)) (ledAll ls (each (fieldIn ks vs) (i + 1) (n - (i + 1)))) e) refl
@@ -245,13 +241,53 @@ unfolding each
 lead-first ls ks vs n = rw (sub-zero n, fields-each 0 n ks vs) (prefix-none (ledAll ls (each (fieldIn ks vs) 0 n)))
 
 -- the same by what leading one jump does
-pub led-turn : {ls : List Label} {ks vs after : List ℕ} {i : ℕ} {r : Led} (n : ℕ) → LeadsOne ls ks i vs r after → r ≡ All → i < n → i < length vs
+pub led-turn : {ls : List Label} {ks vs after : List ℕ} {i : ℕ} {r : Way} (n : ℕ) → LeadsOne ls ks i vs r after → r ≡ On → i < n → i < length vs
     → prefixed (each (fieldIn ks after) 0 (i + 1)) (ledAll ls (each (fieldIn ks after) (i + 1) (n - (i + 1))))
     ≡ prefixed (each (fieldIn ks vs) 0 i) (ledAll ls (each (fieldIn ks vs) i (n - i)))
 led-turn {ls} {ks} {vs} {after} {i} n one e h room =
     lead-turn ls ks vs after n i h (one .others) (rw e at (one .told room))
 
-pub led-fails : {ls : List Label} {ks vs after : List ℕ} {i : ℕ} {r : Led} (n k : ℕ) → LeadsOne ls ks i vs r after → r ≡ Unset k → i < n → i < length vs
-    → unsetIn k ≡ prefixed (each (fieldIn ks vs) 0 i) (ledAll ls (each (fieldIn ks vs) i (n - i)))
+pub led-fails : {ls : List Label} {ks vs after : List ℕ} {i : ℕ} {r : Way} (n k : ℕ) → LeadsOne ls ks i vs r after → r ≡ Unset k → i < n → i < length vs
+    → refusal 9 k ≡ prefixed (each (fieldIn ks vs) 0 i) (ledAll ls (each (fieldIn ks vs) i (n - i)))
 led-fails {ls} {ks} {vs} {after} {i} n k one e h room =
     lead-fails ls ks vs after n i h (one .others) k (rw e at (one .told room))
+
+-- ---- any arrays
+
+pub no-places : (room at n : ℕ) → room < n → false ≡ leb (at + n) room
+no-places room at n h = sym (lt-leb (at + n) room (omega (arith, h)))
+
+pub places-left : (room at n : ℕ) → n ≤ room → leb at (room - n) ≡ leb (at + n) room
+places-left room at n h =
+    by-less (room - n) at
+    (λ less. lt-leb at (room - n) less ∙ sym (lt-leb (at + n) room (omega (arith, less, h))))
+    (λ more. le-leb at (room - n) more ∙ sym (le-leb (at + n) room (omega (arith, more, h))))
+
+module _ (k : ℕ) (fs : List Field) (at : ℕ) (ks vs : List ℕ) where
+  -- with room for the fields
+  pub put-fit : at + length fs ≤ length ks → at + length fs ≤ length vs → putOf k fs at ks vs ≡ fields (fieldsFrom 0 at ks vs ++ map (packedField k) fs)
+  unfolding putOf pick
+  put-fit h g = rw (le-leb (at + length fs) (length ks) h, le-leb (at + length fs) (length vs) g) refl
+
+  pub put-told : {after-ks after-vs : List ℕ} (n : ℕ) → Appended k fs at ks vs after-ks after-vs → length fs ≡ n
+      → at + length fs ≤ length ks → at + length fs ≤ length vs → fields (fieldsFrom 0 (at + n) after-ks after-vs) ≡ putOf k fs at ks vs
+  put-told {after-ks} {after-vs} n put e h g =
+      ap (λ m. fields (fieldsFrom 0 (at + m) after-ks after-vs)) (sym e) ∙ ap fields (put .told) ∙ sym (put-fit h g)
+
+  pub no-room-kinds : leb (at + length fs) (length ks) ≡ false → noRoom ≡ putOf k fs at ks vs
+  unfolding putOf pick
+  no-room-kinds e = rw e refl
+
+  pub no-room-values : leb (at + length fs) (length ks) ≡ true → leb (at + length fs) (length vs) ≡ false → noRoom ≡ putOf k fs at ks vs
+  unfolding putOf pick
+  no-room-values e f = rw (e, f) refl
+
+module _ (ls : List Label) (n : ℕ) (ks vs : List ℕ) where
+  -- with a place for each field
+  pub led-fit : n ≤ length vs → ledOf ls n ks vs ≡ told (ledAll ls (fieldsFrom 0 n ks vs))
+  unfolding ledOf pick
+  led-fit h = rw (le-leb n (length vs) h) refl
+
+  pub led-unfit : length vs < n → unfit ≡ ledOf ls n ks vs
+  unfolding ledOf pick
+  led-unfit h = rw (lt-leb n (length vs) h) refl

@@ -1,1 +1,2 @@
 pub mod FieldTurns
+pub mod Instructions

@@ -22,15 +22,16 @@ use Rattle.cells.specs.declared.Found.{Found}
 use Rattle.cells.specs.declared.Found.the-variants.{At, Missing}
 use Rattle.cells.specs.declared.Next.{Next}
 use Rattle.cells.specs.declared.Reading.the-variants.{Statement, Ended, Cut}
-use Rattle.cells.specs.Answers.{foundAt, unrolled, Moved, Within}
+use Rattle.cells.specs.Answers.{Bytes, refused as notBytes, allowed as allBytes, found, foundOf, unrolled, Moved, Within}
 use Rattle.front_end_forms.specs.declared.Progress.{Progress}
 use Rattle.front_end_forms.specs.declared.Step.{Step}
-use Rattle.front_end_forms.specs.declared.Step.the-variants.{Further, Refused, Given}
-use Rattle.front_end_forms.specs.Answers.{Holds, Held, Comes, FewCounts, noProgress, placedFields, AllPacked}
+use Rattle.front_end_forms.specs.declared.Step.the-variants.{Further, Refused, Given, Unfit}
+use Rattle.front_end_forms.specs.Memory.{Holds, Held, noProgress, placedFields, AllPacked}
+use Rattle.front_end_forms.specs.Answers.{Comes, FewCounts}
 use Rattle.front_end_forms.proofs.Steps.{says}
 use Rattle.front_end_forms.proofs.Placing.{fields-inside}
 use Rattle.front_end.specs.declared.Answer.the-variants.{Sheet as SheetIs}
-use Rattle.front_end.specs.Answers.{told, answered, fieldsOfSheet, refusedAt}
+use Rattle.front_end.specs.Answers.{Told, told, answered, fieldsOfSheet, refusedAt, unfit}
 use Rattle.front_end.specs.Internal.{Rooms, Going}
 use borrow.Author.Tests.{lt-ltb, le-ltb}
 
@@ -128,6 +129,9 @@ module _ {source ns ls ks vs : List ℕ} {at k : ℕ} {p : Progress} (g : Going 
         unfolding onOutcome
         is-refused m j s = let t = says (rw s at one) in whole (goes-on t)
 
+        pub never-unfit : {A : Type 0} → r ≡ Unfit → A
+        never-unfit s = absurd (says (rw s at one))
+
         pub is-given : r ≡ Given → told (SheetIs (p .names) (p .instructions) (p .fields)) ks′ vs′ ≡ answered (program nothingRead 0 (statements source))
         unfolding onOutcome
         is-given s =
@@ -148,7 +152,7 @@ module _ {source ns ls ks vs : List ℕ} {at k : ℕ} {p : Progress} (g : Going 
 
 -- ---- where the next statement lies
 
-pub moved-to : {at size : ℕ} (n : Next) (after : ℕ) → Moved at size n → n .reading ≡ Statement after → Within at size after (n .statement .length)
+pub moved-to : {s : List ℕ} {at : ℕ} (n : Next) (after : ℕ) → Moved s at n → n .reading ≡ Statement after → Within s at after (n .statement .length)
 moved-to n after h e = rw e at h
 
 -- fewer statements than bytes
@@ -157,44 +161,55 @@ few-statements g h = let a = g .fewer in let b = g .inside in omega (arith, a, b
 
 -- ---- before any statement
 
+abbrev isAll : Bytes → ℕ
+isAll (notBytes n i) = 0
+isAll allBytes = 1
+
+abbrev offsetOr : ℕ → Bytes → ℕ
+offsetOr d (notBytes n i) = i
+offsetOr d allBytes = d
+
 module _ (source : List ℕ) where
   pub too-long : 16384 < length source → refusedAt 1 0 ≡ answered (answer source)
   unfolding pick
   too-long h = rw (lt-ltb 16384 (length source) h) refl
 
-  module _ (short : length source ≤ 16384) {r : Found} (e : foundAt r ≡ notAllowed 0 source) where
-    pub not-a-byte : (i : ℕ) → r ≡ At i → refusedAt 2 i ≡ answered (answer source)
+  module _ (short : length source ≤ 16384) (r : Found) (e : found r ≡ foundOf (notAllowed 0 source)) where
+    -- the number and place that the case has are those of the source's refusal
+    refused-byte : (n i : ℕ) → notBytes n i ≡ foundOf (notAllowed 0 source) → refusedAt n i ≡ answered (answer source)
     unfolding pick
-    not-a-byte i z =
-        let t : offset i ≡ notAllowed 0 source = rw z at e in
-        rw (le-ltb 16384 (length source) short) (ap (λ n. answered (onAllowed n source)) t)
+    refused-byte n i z = rw (le-ltb 16384 (length source) short) (by-offset (notAllowed 0 source) z)
+      where
+        by-offset : (a : NotAllowed) → notBytes n i ≡ foundOf a → refusedAt n i ≡ answered (onAllowed a source)
+        by-offset (offset j) z = ap replied z
+          where
+            replied : Bytes → Told
+            replied (notBytes m k) = refusedAt m k
+            replied allBytes = unfit
+        by-offset allAllowed z = let m : _≡_ {A = ℕ} 0 1 = ap isAll z in absurd (omega arith)
+
+    pub not-a-byte : (i : ℕ) → r ≡ At i → refusedAt 2 i ≡ answered (answer source)
+    not-a-byte i z = refused-byte 2 i (rw z at e)
 
     pub all-bytes : r ≡ Missing → answered (program nothingRead 0 (statements source)) ≡ answered (answer source)
     unfolding pick
-    all-bytes z =
-        let t : allAllowed ≡ notAllowed 0 source = rw z at e in
-        rw (le-ltb 16384 (length source) short) (ap (λ n. answered (onAllowed n source)) t)
-
-abbrev isAll : NotAllowed → ℕ
-isAll (offset i) = 0
-isAll allAllowed = 1
-
-abbrev offsetOr : ℕ → NotAllowed → ℕ
-offsetOr d (offset i) = i
-offsetOr d allAllowed = d
+    all-bytes z = rw (le-ltb 16384 (length source) short) (by-offset (notAllowed 0 source) (rw z at e))
+      where
+        by-offset : (a : NotAllowed) → allBytes ≡ foundOf a → answered (program nothingRead 0 (statements source)) ≡ answered (onAllowed a source)
+        by-offset (offset j) z = let m : _≡_ {A = ℕ} 1 0 = ap isAll z in absurd (omega arith)
+        by-offset allAllowed z = refl
 
 -- the offset of a byte lies in the source
-offset-inside : (bs : List ℕ) (j i : ℕ) → offset i ≡ notAllowed j bs → i < j + length bs
+offset-inside : (bs : List ℕ) (j n i : ℕ) → notBytes n i ≡ foundOf (notAllowed j bs) → i < j + length bs
 unfolding notAllowed pick
-offset-inside [] j i e = let z : _≡_ {A = ℕ} 0 1 = ap isAll e in absurd (omega arith)
-offset-inside (b ∷ bs) j i e =
+offset-inside [] j n i e = let z : _≡_ {A = ℕ} 0 1 = ap isAll e in absurd (omega arith)
+offset-inside (b ∷ bs) j n i e =
     by-test
     (isAllowed b)
-    (λ t. let h = offset-inside bs (suc j) i (rw t at e) in omega (arith, h))
+    (λ t. let h = offset-inside bs (suc j) n i (rw t at e) in omega (arith, h))
     (λ t. let z : i ≡ j = ap (offsetOr i) (rw t at e) in omega (arith, z))
 
-pub small-offset : (source : List ℕ) {r : Found} (i : ℕ) → foundAt r ≡ notAllowed 0 source → r ≡ At i → length source ≤ 16384 → i < 4294967296
-small-offset source i e z h =
-    let t : offset i ≡ notAllowed 0 source = rw z at e in
-    let g = offset-inside source 0 i t in
+pub small-offset : (source : List ℕ) (r : Found) (i : ℕ) → found r ≡ foundOf (notAllowed 0 source) → r ≡ At i → length source ≤ 16384 → i < 4294967296
+small-offset source r i e z h =
+    let g = offset-inside source 0 2 i (rw z at e) in
     omega (arith, g, h)

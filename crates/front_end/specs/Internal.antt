@@ -5,18 +5,18 @@ use mathlib.Core.List.{List, []}
 use lib.ListN.{length, drop}
 use Rattle.sheet_field.specs.Memory.{mostFields}
 use Rattle.source.specs.declared.Mode.the-variants.{Plain}
-use Rattle.source.specs.Limits.{mostBytes}
+use Rattle.source.specs.Limits.{mostBytes, mostCells}
 use Rattle.source.specs.Cells.{statementsFrom, statements}
 use Rattle.source.specs.Memory.{tableRows}
 use Rattle.source.specs.Program.{Program, nothingRead}
 use Rattle.source.specs.Source.{program}
 use Rattle.front_end_forms.specs.declared.Progress.{Progress}
-use Rattle.front_end_forms.specs.Answers.{Holds}
+use Rattle.front_end_forms.specs.Memory.{Holds}
 
 -- the source is within its limit, and the arrays have their lengths
 pub record Rooms (source names labels kinds values : List ℕ) : Type 0 where
   pub few-bytes : length source ≤ mostBytes
-  pub room-for-names : length names ≡ tableRows * 256
+  pub room-for-names : length names ≡ tableRows * mostCells
   pub room-for-labels : length labels ≡ tableRows
   pub room-for-kinds : length kinds ≡ mostFields
   pub room-for-values : length values ≡ mostFields

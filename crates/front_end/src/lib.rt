@@ -57,6 +57,7 @@ fn read_statements(
                     Step::Given => {
                         return Answer::Sheet(p.names as u32, p.instructions, p.fields as u32);
                     }
+                    Step::Unfit => return Answer::Unfit,
                 }
             }
         }

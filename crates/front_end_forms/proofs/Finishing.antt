@@ -13,20 +13,24 @@ use Rattle.base.proofs.Places.{each-length}
 use Rattle.sheet.specs.declared.Field.{Field}
 use Rattle.sheet.specs.declared.Field.the-variants.{Else, Then, Send, Neg, Not, Binary, If, Word, Constant, Set, Goto}
 use Rattle.sheet.specs.Sheet.{Expression, word, constant, negated, inverted, binary, Simple, set, send, goto, Instruction, simple, when, either}
+use Rattle.sheet.specs.Sheet.{retarget, retargetOne}
 use Rattle.sheet.specs.Fields.{expressionFields, simpleFields, instructionFields, fieldsOfAll}
-use Rattle.sheet.specs.ReadBack.{retarget, retargetOne}
 use Rattle.sheet_field.specs.Memory.{fieldsFrom}
 use Rattle.source.specs.Program.{Program, Label, Placed, placed, instructionOf, numberOf, isLabel, isSet, all, jumpsIn, Unset, unset, allSet}
 use Rattle.source.specs.Program.{firstUnset, sheetOf, finished}
-use Rattle.names.specs.Answers.{nameAt}
-use Rattle.labels.specs.Answers.{labelsOf}
+use Rattle.names.specs.Memory.{nameAt}
+use Rattle.labels.specs.Memory.{labelsOf}
 use Rattle.fields.specs.declared.Led.{Led}
-use Rattle.fields.specs.declared.Led.the-variants.{All, Unset as UnsetAt}
-use Rattle.fields.specs.Answers.{packedField, packedJump, LedFields, led, unsetIn, behindField, ledAll, ledIn}
-use Rattle.fields.proofs.FieldTurns.{prefixed, prefix-none}
+use Rattle.fields.specs.declared.Led.the-variants.{All, Unset as UnsetAt, Unfit as NotLed}
+use Rattle.fields.specs.Memory.{fieldJumps, packedField, packedJump}
+use Rattle.fields.specs.Answers.{LedFields, led, refusal, behindField, ledAll, Told, told, unfit, ledIn, ledOf}
+use Rattle.fields.proofs.FieldTurns.{prefixed, prefix-none, led-fit}
+use Rattle.fields.proofs.Instructions.{jumps-fields}
 use Rattle.front_end_forms.specs.declared.Progress.{Progress}
 use Rattle.front_end_forms.specs.declared.Step.the-variants.{Refused, Given}
-use Rattle.front_end_forms.specs.Answers.{placedFields, AllPacked, Holds, Held, Comes, refuses, gives}
+use Rattle.front_end_forms.specs.Memory.{placedFields, AllPacked, Holds, Held}
+use Rattle.front_end_forms.specs.Answers.{Comes, refuses, gives}
+use Rattle.front_end_forms.proofs.Placing.{fields-inside}
 
 -- ---- the fields of an instruction with other jumps
 
@@ -101,34 +105,34 @@ by-number (suc n) t a b = rw (ne-eqb (suc n) 0 (λ e. absurd (omega (arith, e)))
 
 module _ (ls : List Label) (k : ℕ) (few : k < 65536) (rest : List Field) where
   abbrev ahead : List Field → LedFields
-  ahead fs = pick (all (isSet ls) (jumpsIn fs)) (prefixed (map (otherwise (numberOf ls)) fs) (ledAll ls rest)) (unsetIn k)
+  ahead fs = pick (all (isSet ls) (fieldJumps fs)) (prefixed (map (otherwise (numberOf ls)) fs) (ledAll ls rest)) (refusal 9 k)
 
   -- a field that does not jump
-  over-field : (f : Field) (fs : List Field) → behindField f (pick (all (isSet ls) (jumpsIn fs)) (prefixed (map (otherwise (numberOf ls)) fs) (ledAll ls rest)) (unsetIn k))
-      ≡ pick (all (isSet ls) (jumpsIn fs)) (prefixed (f ∷ map (otherwise (numberOf ls)) fs) (ledAll ls rest)) (unsetIn k)
+  over-field : (f : Field) (fs : List Field) → behindField f (pick (all (isSet ls) (fieldJumps fs)) (prefixed (map (otherwise (numberOf ls)) fs) (ledAll ls rest)) (refusal 9 k))
+      ≡ pick (all (isSet ls) (fieldJumps fs)) (prefixed (f ∷ map (otherwise (numberOf ls)) fs) (ledAll ls rest)) (refusal 9 k)
   unfolding pick
-  over-field f fs = by-test (all (isSet ls) (jumpsIn fs)) (λ t. rw t (more (ledAll ls rest))) (λ t. rw t refl)
+  over-field f fs = by-test (all (isSet ls) (fieldJumps fs)) (λ t. rw t (more (ledAll ls rest))) (λ t. rw t refl)
     where
       more : (l : LedFields) → behindField f (prefixed (map (otherwise (numberOf ls)) fs) l) ≡ prefixed (f ∷ map (otherwise (numberOf ls)) fs) l
       more (led gs) = refl
-      more (unsetIn j) = refl
+      more (refusal n j) = refl
 
   -- a jump
   over-jump : (l : ℕ) (fs : List Field) (more : LedFields) → l < 16384 → more ≡ ahead fs
       → pick
       (eqb (numberOf ls (packedJump k l % 16384)) 0)
-      (unsetIn (packedJump k l / 16384))
+      (refusal 9 (packedJump k l / 16384))
       (behindField (Goto (numberOf ls (packedJump k l % 16384))) more)
       ≡ ahead (Goto l ∷ fs)
-  unfolding pick all jumpsIn
+  unfolding pick all fieldJumps
   over-jump l fs more g e =
       let s = split-again k l few g in
       rw (s .0, s .1, e)
-      (ap (pick (eqb (numberOf ls l) 0) (unsetIn k)) (over-field (Goto (numberOf ls l)) fs)
-      ∙ by-number (numberOf ls l) (all (isSet ls) (jumpsIn fs)) _ _)
+      (ap (pick (eqb (numberOf ls l) 0) (refusal 9 k)) (over-field (Goto (numberOf ls l)) fs)
+      ∙ by-number (numberOf ls l) (all (isSet ls) (fieldJumps fs)) _ _)
 
-  pub statement-led : (fs : List Field) → all isLabel (jumpsIn fs) ≡ true → ledAll ls (map (packedField k) fs ++ rest) ≡ ahead fs
-  unfolding ledAll jumpsIn all pick
+  pub statement-led : (fs : List Field) → all isLabel (fieldJumps fs) ≡ true → ledAll ls (map (packedField k) fs ++ rest) ≡ ahead fs
+  unfolding ledAll fieldJumps all pick
   statement-led [] good = sym (prefix-none (ledAll ls rest))
   statement-led (Else ∷ fs) good = ap (behindField Else) (statement-led fs good) ∙ over-field Else fs
   statement-led (Then ∷ fs) good = ap (behindField Then) (statement-led fs good) ∙ over-field Then fs
@@ -141,13 +145,14 @@ module _ (ls : List Label) (k : ℕ) (few : k < 65536) (rest : List Field) where
   statement-led (Constant n ∷ fs) good = ap (behindField (Constant n)) (statement-led fs good) ∙ over-field (Constant n) fs
   statement-led (Set w ∷ fs) good = ap (behindField (Set w)) (statement-led fs good) ∙ over-field (Set w) fs
   statement-led (Goto l ∷ fs) good =
-      let g = both-yes (isLabel l) (all isLabel (jumpsIn fs)) good in
+      let g = both-yes (isLabel l) (all isLabel (fieldJumps fs)) good in
       over-jump l fs (ledAll ls (map (packedField k) fs ++ rest)) (label-small l (g .0)) (statement-led fs (g .1))
 
 -- ---- all of them
 
+-- 9 "label .. never set"
 abbrev ledFor : List Instruction → Unset → LedFields
-ledFor is (unset k) = unsetIn k
+ledFor is (unset k) = refusal 9 k
 ledFor is allSet = led (fieldsOfAll is)
 
 abbrev ledTo : List Label → List Placed → List Instruction
@@ -157,9 +162,12 @@ pub all-led : (ls : List Label) (ps : List Placed) → AllPacked ps → ledAll l
 unfolding ledAll placedFields AllPacked firstUnset fieldsOfAll pick
 all-led ls [] h = refl
 all-led ls (placed k i ∷ ps) h =
-    statement-led ls k (h .0) (placedFields ps) (instructionFields i) (h .1)
+    statement-led ls k (h .0) (placedFields ps) (instructionFields i) (ap (all isLabel) (jumps-fields i) ∙ h .1)
+    ∙ ap
+    (λ l. pick (all (isSet ls) l) (prefixed (map (otherwise (numberOf ls)) (instructionFields i)) (ledAll ls (placedFields ps))) (refusal 9 k))
+    (jumps-fields i)
     ∙ by-test
-    (all (isSet ls) (jumpsIn (instructionFields i)))
+    (all (isSet ls) (jumpsIn i))
     (λ t. rw t (ap₂ prefixed (sym (instruction-led (numberOf ls) i)) (all-led ls ps (h .2)) ∙ whole (firstUnset ls ps)))
     (λ t. rw t refl)
   where
@@ -169,25 +177,44 @@ all-led ls (placed k i ∷ ps) h =
 
 -- ---- what is held then
 
-abbrev ledNumber : LedFields → ℕ
-ledNumber (led fs) = 0
-ledNumber (unsetIn k) = suc k
+abbrev caseNumber : Told → ℕ
+caseNumber (told (led fs)) = 0
+caseNumber (told (refusal n k)) = 1
+caseNumber unfit = 2
 
-abbrev fieldsOr : List Field → LedFields → List Field
-fieldsOr d (led fs) = fs
-fieldsOr d (unsetIn k) = d
+abbrev numberOr : ℕ → Told → ℕ
+numberOr d (told (led fs)) = d
+numberOr d (told (refusal n k)) = n
+numberOr d unfit = d
 
-module _ {q : Program} {p : Progress} {ns ls ks vs : List ℕ} (h : Holds q p ns ls ks vs) (after : List ℕ) where
+abbrev placeOr : ℕ → Told → ℕ
+placeOr d (told (led fs)) = d
+placeOr d (told (refusal n k)) = k
+placeOr d unfit = d
+
+abbrev fieldsOr : List Field → Told → List Field
+fieldsOr d (told (led fs)) = fs
+fieldsOr d (told (refusal n k)) = d
+fieldsOr d unfit = d
+
+module _ {q : Program} {p : Progress} {ns ls ks vs : List ℕ} (h : Holds q p ns ls ks vs) (r : Led) (after : List ℕ)
+    (e : ledIn r (p .fields) ks after ≡ ledOf (labelsOf (p .labels) ls) (p .fields) ks vs) where
   abbrev Goes : Program → Progress → Type 0
   Goes o n = ⊥
 
-  comes-given : led (fieldsFrom 0 (p .fields) ks after) ≡ ledAll (labelsOf (p .labels) ls) (fieldsFrom 0 (p .fields) ks vs)
-      → Comes Goes (Held p ks after) Given (finished q (firstUnset (q .set) (q .placed-in)))
-  comes-given e =
-      by-unset (firstUnset (q .set) (q .placed-in)) ((rw (h .labelled, h .fielded) at e) ∙ all-led (q .set) (q .placed-in) (h .packed))
+  -- the answer is that of the program's first jump to a label never set
+  jumps-led : ledIn r (p .fields) ks after ≡ told (ledFor (ledTo (q .set) (q .placed-in)) (firstUnset (q .set) (q .placed-in)))
+  jumps-led =
+      e
+      ∙ led-fit (labelsOf (p .labels) ls) (p .fields) ks vs (rw (h .room-for-values) (fields-inside h))
+      ∙ ap₂ (λ ms fs. told (ledAll ms fs)) (h .labelled) (h .fielded)
+      ∙ ap told (all-led (q .set) (q .placed-in) (h .packed))
+
+  pub finishes : r ≡ All → Comes Goes (Held p ks after) Given (finished q (firstUnset (q .set) (q .placed-in)))
+  finishes w = by-unset (firstUnset (q .set) (q .placed-in)) (rw w at jumps-led)
     where
-      by-unset : (u : Unset) → led (fieldsFrom 0 (p .fields) ks after) ≡ ledFor (ledTo (q .set) (q .placed-in)) u → Comes Goes (Held p ks after) Given (finished q u)
-      by-unset (unset k) z = let n : _≡_ {A = ℕ} 0 (suc k) = ap ledNumber z in absurd (omega (arith, n))
+      by-unset : (u : Unset) → told (led (fieldsFrom 0 (p .fields) ks after)) ≡ told (ledFor (ledTo (q .set) (q .placed-in)) u) → Comes Goes (Held p ks after) Given (finished q u)
+      by-unset (unset k) z = let n : _≡_ {A = ℕ} 0 1 = ap caseNumber z in absurd (omega (arith, n))
       by-unset allSet z =
           gives
           (sheetOf q)
@@ -197,19 +224,24 @@ module _ {q : Program} {p : Progress} {ns ls ks vs : List ℕ} (h : Holds q p ns
             fields-too = ap (fieldsOr []) z;
           })
 
-  comes-unset-at : (k : ℕ) → unsetIn k ≡ ledAll (labelsOf (p .labels) ls) (fieldsFrom 0 (p .fields) ks vs)
-      → Comes Goes (Held p ks after) (Refused 9 k) (finished q (firstUnset (q .set) (q .placed-in)))
-  comes-unset-at k e =
-      by-unset (firstUnset (q .set) (q .placed-in)) ((rw (h .labelled, h .fielded) at e) ∙ all-led (q .set) (q .placed-in) (h .packed))
+  -- the number that the case has is that of the program's refusal
+  refused-at : (n k : ℕ) → told (refusal n k) ≡ told (ledFor (ledTo (q .set) (q .placed-in)) (firstUnset (q .set) (q .placed-in)))
+      → Comes Goes (Held p ks after) (Refused n k) (finished q (firstUnset (q .set) (q .placed-in)))
+  refused-at n k z = by-unset (firstUnset (q .set) (q .placed-in)) z
     where
-      by-unset : (u : Unset) → unsetIn k ≡ ledFor (ledTo (q .set) (q .placed-in)) u → Comes Goes (Held p ks after) (Refused 9 k) (finished q u)
-      by-unset (unset j) z = let n : k ≡ j = omega (arith, ap ledNumber z) in rw n (refuses 9 j)
-      by-unset allSet z = let n : _≡_ {A = ℕ} (suc k) 0 = ap ledNumber z in absurd (omega (arith, n))
+      by-unset : (u : Unset) → told (refusal n k) ≡ told (ledFor (ledTo (q .set) (q .placed-in)) u) → Comes Goes (Held p ks after) (Refused n k) (finished q u)
+      by-unset (unset j) z =
+          let same : n ≡ 9 = ap (numberOr n) z in
+          let there : k ≡ j = ap (placeOr k) z in
+          rw (same, there) (refuses 9 j)
+      by-unset allSet z = let n : _≡_ {A = ℕ} 1 0 = ap caseNumber z in absurd (omega (arith, n))
 
-  pub finishes : {r : Led} → r ≡ All → ledIn r (p .fields) ks after ≡ ledAll (labelsOf (p .labels) ls) (fieldsFrom 0 (p .fields) ks vs)
-      → Comes Goes (Held p ks after) Given (finished q (firstUnset (q .set) (q .placed-in)))
-  finishes {r} e t = comes-given (rw e at t)
+  pub finds-unset : (k : ℕ) → r ≡ UnsetAt k → Comes Goes (Held p ks after) (Refused 9 k) (finished q (firstUnset (q .set) (q .placed-in)))
+  finds-unset k w = refused-at 9 k (rw w at jumps-led)
 
-  pub finds-unset : {r : Led} (k : ℕ) → r ≡ UnsetAt k → ledIn r (p .fields) ks after ≡ ledAll (labelsOf (p .labels) ls) (fieldsFrom 0 (p .fields) ks vs)
-      → Comes Goes (Held p ks after) (Refused 9 k) (finished q (firstUnset (q .set) (q .placed-in)))
-  finds-unset {r} k e t = comes-unset-at k (rw e at t)
+  pub led-fits : {A : Type 0} → r ≡ NotLed → A
+  led-fits w = by-unset (firstUnset (q .set) (q .placed-in)) (rw w at jumps-led)
+    where
+      by-unset : {A : Type 0} (u : Unset) → unfit ≡ told (ledFor (ledTo (q .set) (q .placed-in)) u) → A
+      by-unset (unset k) z = let n : _≡_ {A = ℕ} 2 1 = ap caseNumber z in absurd (omega (arith, n))
+      by-unset allSet z = let n : _≡_ {A = ℕ} 2 0 = ap caseNumber z in absurd (omega (arith, n))

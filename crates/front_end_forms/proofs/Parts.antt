@@ -10,7 +10,8 @@ use Rattle.source.specs.Program.{Program, Part, nothing, declarations, instruct
 use Rattle.front_end_forms.specs.declared.Progress.{Progress}
 use Rattle.front_end_forms.specs.declared.Step.{Step}
 use Rattle.front_end_forms.specs.declared.Step.the-variants.{Refused}
-use Rattle.front_end_forms.specs.Answers.{partNumber, Holds, Comes}
+use Rattle.front_end_forms.specs.Memory.{partNumber, Holds}
+use Rattle.front_end_forms.specs.Answers.{Comes}
 use Rattle.front_end_forms.proofs.Steps.{comes-refused}
 
 module _ (q : Program) (k : ℕ) (xs : List Lexeme) where

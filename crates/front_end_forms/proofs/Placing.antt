@@ -18,11 +18,24 @@ use Rattle.translate_size.specs.declared.Size.{Size}
 use Rattle.translate_size.specs.Answers.{SizeOf, SizeAt}
 use Rattle.translate_size.proofs.Lengths.{instruction-twice, fields-twice}
 use Rattle.source.specs.Program.{Program, Placed, placed, instructionOf, jumpsIn, all, isLabel, placing, withFewOrders, withFewTemporaries}
-use Rattle.fields.specs.Answers.{packedField, Appended, Appends}
+use Rattle.fields.specs.declared.Put.{Put}
+use Rattle.fields.specs.declared.Put.the-variants.{Fields as PutFields, Unfit as NotPut}
+use Rattle.fields.specs.Memory.{packedField}
+use Rattle.fields.specs.Answers.{Fields, fields, noRoom, putIn, putOf}
+use Rattle.fields.proofs.FieldTurns.{put-fit}
 use Rattle.front_end_forms.specs.declared.Progress.{Progress}
 use Rattle.front_end_forms.specs.declared.Step.the-variants.{Further, Refused}
-use Rattle.front_end_forms.specs.Answers.{placedFields, AllPacked, Holds, Comes, NoSheet}
+use Rattle.front_end_forms.specs.Memory.{placedFields, AllPacked, Holds}
+use Rattle.front_end_forms.specs.Answers.{Comes, NoSheet}
 use Rattle.front_end_forms.proofs.Steps.{comes-refused, comes-further}
+
+abbrev caseNumber : Fields → ℕ
+caseNumber (fields fs) = 0
+caseNumber noRoom = 1
+
+abbrev fieldsOr : List Field → Fields → List Field
+fieldsOr d (fields fs) = fs
+fieldsOr d noRoom = d
 
 -- ---- one instruction more
 
@@ -42,7 +55,7 @@ fields-more (placed j x ∷ ps) k i =
     ap (λ l. map (packedField j) (instructionFields x) ++ l) (fields-more ps k i)
     ∙ sym (append-assoc (map (packedField j) (instructionFields x)) (placedFields ps) (map (packedField k) (instructionFields i)))
 
-packed-more : (ps : List Placed) (k : ℕ) (i : Instruction) → AllPacked ps → k < 65536 → all isLabel (jumpsIn (instructionFields i)) ≡ true → AllPacked (ps ++ placed k i ∷ [])
+packed-more : (ps : List Placed) (k : ℕ) (i : Instruction) → AllPacked ps → k < 65536 → all isLabel (jumpsIn i) ≡ true → AllPacked (ps ++ placed k i ∷ [])
 unfolding AllPacked
 packed-more [] k i h few good = (few, good, tt)
 packed-more (placed j x ∷ ps) k i h few good = (h .0, h .1, packed-more ps k i (h .2) few good)
@@ -88,37 +101,53 @@ module _ {q : Program} {p : Progress} {ns ls ks vs : List ℕ} (h : Holds q p ns
           let u : 1024 < suc (p .orders + orders (length (q .names)) i) = omega (arith, g, o) in
           comes-refused 11 k (rw (le-ltb 32 (instructionTemporaries i) t, total, lt-ltb 1024 _ u) refl)
 
-    pub comes-placed : (ks′ vs′ : List ℕ) (m : ℕ) → m ≡ length (instructionFields i) → z .temporaries ≤ 32 → z .orders < 1024 - p .orders
-        → k < 65536 → all isLabel (jumpsIn (instructionFields i)) ≡ true
-        → Appended k (instructionFields i) (p .fields) ks vs ks′ vs′
-        → Comes (λ o n. Holds o n ns ls ks′ vs′) NoSheet
-        (Further (record { part = 2; names = p .names; labels = p .labels; fields = p .fields + m; instructions = p .instructions + 1; orders = p .orders + z .orders }))
-        (withFewTemporaries k i (withFewOrders k (placing k i q)))
-    unfolding pick
-    comes-placed ks′ vs′ m e f g few good put =
-        let t : instructionTemporaries i ≤ 32 = rw (size .temporaries-too) at f in
-        let o = size .orders-too (length (q .names)) in
-        let u : suc (p .orders + orders (length (q .names)) i) ≤ 1024 = omega (arith, g, o) in
-        comes-further
-        (placing k i q)
-        _
-        (rw (le-ltb 32 (instructionTemporaries i) t, total, le-ltb 1024 _ u) refl)
-        (record {
-          parted = refl;
-          named = h .named;
-          labelled = h .labelled;
-          fielded = rw e (put .told) ∙ ap (λ l. l ++ map (packedField k) (instructionFields i)) (h .fielded) ∙ sym (fields-more (q .placed-in) k i);
-          counted = ap (λ n. n + 1) (h .counted) ∙ sym (length-append (q .placed-in) (placed k i ∷ []));
-          ordered = λ v. ap₂ _+_ (h .ordered v) (size .orders-too v) ∙ sym (orders-more v (q .placed-in) k i);
-          packed = packed-more (q .placed-in) k i (h .packed) few good;
-          few-names = h .few-names;
-          few-labels = h .few-labels;
-          few-orders = omega (arith, g);
-          room-for-names = h .room-for-names;
-          room-for-labels = h .room-for-labels;
-          room-for-kinds = put .kept-kinds ∙ h .room-for-kinds;
-          room-for-values = put .kept-values ∙ h .room-for-values;
-        })
+    module _ (r : Put) (ks′ vs′ : List ℕ) {fs : List Field} (e : fs ≡ instructionFields i) (g : z .orders < 1024 - p .orders) (told : putIn r ks′ vs′ ≡ putOf k fs (p .fields) ks vs) where
+      put-told : putIn r ks′ vs′ ≡ fields (fieldsFrom 0 (p .fields) ks vs ++ map (packedField k) (instructionFields i))
+      put-told =
+          let room = few-fields g in
+          told
+          ∙ ap (λ l. putOf k l (p .fields) ks vs) e
+          ∙ put-fit k (instructionFields i) (p .fields) ks vs (rw (h .room-for-kinds) room) (rw (h .room-for-values) room)
+
+      pub fields-fit : {A : Type 0} → r ≡ NotPut → A
+      fields-fit w = let t : _≡_ {A = ℕ} 1 0 = ap caseNumber (rw w at put-told) in absurd (omega arith)
+
+      fields-put : (n : ℕ) → r ≡ PutFields n → fieldsFrom 0 n ks′ vs′ ≡ placedFields (placing k i q .placed-in)
+      fields-put n w =
+          ap (fieldsOr []) (rw w at put-told)
+          ∙ ap (λ l. l ++ map (packedField k) (instructionFields i)) (h .fielded)
+          ∙ sym (fields-more (q .placed-in) k i)
+
+      pub comes-placed : (n : ℕ) → r ≡ PutFields n → length ks′ ≡ length ks → length vs′ ≡ length vs → z .temporaries ≤ 32
+          → k < 65536 → all isLabel (jumpsIn i) ≡ true
+          → Comes (λ o n. Holds o n ns ls ks′ vs′) NoSheet
+          (Further (record { part = 2; names = p .names; labels = p .labels; fields = n; instructions = p .instructions + 1; orders = p .orders + z .orders }))
+          (withFewTemporaries k i (withFewOrders k (placing k i q)))
+      unfolding pick
+      comes-placed n w kept-kinds kept-values f few good =
+          let t : instructionTemporaries i ≤ 32 = rw (size .temporaries-too) at f in
+          let o = size .orders-too (length (q .names)) in
+          let u : suc (p .orders + orders (length (q .names)) i) ≤ 1024 = omega (arith, g, o) in
+          comes-further
+          (placing k i q)
+          _
+          (rw (le-ltb 32 (instructionTemporaries i) t, total, le-ltb 1024 _ u) refl)
+          (record {
+            parted = refl;
+            named = h .named;
+            labelled = h .labelled;
+            fielded = fields-put n w;
+            counted = ap (λ n. n + 1) (h .counted) ∙ sym (length-append (q .placed-in) (placed k i ∷ []));
+            ordered = λ v. ap₂ _+_ (h .ordered v) (size .orders-too v) ∙ sym (orders-more v (q .placed-in) k i);
+            packed = packed-more (q .placed-in) k i (h .packed) few good;
+            few-names = h .few-names;
+            few-labels = h .few-labels;
+            few-orders = omega (arith, g);
+            room-for-names = h .room-for-names;
+            room-for-labels = h .room-for-labels;
+            room-for-kinds = kept-kinds ∙ h .room-for-kinds;
+            room-for-values = kept-values ∙ h .room-for-values;
+          })
 
 -- the fields so far lie in the arrays
 pub fields-inside : {q : Program} {p : Progress} {ns ls ks vs : List ℕ} → Holds q p ns ls ks vs → p .fields ≤ 2048
@@ -134,6 +163,3 @@ fields-inside {q} {p} {ns} {ls} {ks} {vs} h =
 pub size-here : (own carried : List ℕ) (m : ℕ) {z : Size} (i : Instruction) → SizeAt own carried m 0 z → m ≤ 256 → fieldsFrom 0 m own carried ≡ instructionFields i → SizeOf 0 i z
 unfolding fieldsOfAll
 size-here own carried m i size few e = size (omega (arith, few)) i [] (ap (λ n. fieldsFrom 0 n own carried) (sub-zero m) ∙ e ∙ sym (append-nil (instructionFields i)))
-
-pub appended-as : {fs gs : List Field} {k at : ℕ} {ks vs ks′ vs′ : List ℕ} → fs ≡ gs → Appends k fs at ks vs ks′ vs′ → at + length gs ≤ length ks → at + length gs ≤ length vs → Appended k gs at ks vs ks′ vs′
-appended-as {fs} {gs} {k} {at} {ks} {vs} {ks′} {vs′} e put g h = rw e at put g h

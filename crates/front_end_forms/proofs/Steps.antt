@@ -16,16 +16,22 @@ use Rattle.source.specs.Grammar.{beginning, declaration}
 use Rattle.source.specs.Program.{Program, Part, nothing, declarations, instructions, Label, Outcome, refused, further, namesIn, canSet, labelsSet}
 use Rattle.source.specs.Program.{nextNumber, inOrder, declare, declaring, opened, labelling, setting, withLabels, withFewLabels, given}
 use Rattle.names.specs.declared.Declared.{Declared}
-use Rattle.names.specs.declared.Declared.the-variants.{Names as Declares, Refused as NotDeclared}
-use Rattle.names.specs.Answers.{namesOf, nameAt, names, twice, declaredAll, Declaring}
-use Rattle.names.proofs.NameTable.{can-declare, not-declared-all, declared-names}
+use Rattle.names.specs.declared.Declared.the-variants.{Names as Declares, Refused as NotDeclared, Unfit as NotFit}
+use Rattle.names.specs.Memory.{namesOf, nameAt}
+use Rattle.names.specs.Internal.{Declaring}
+use Rattle.names.specs.Answers.{names, refusal, declaredIn, declaredAll, declaredOf}
+use Rattle.names.proofs.NameTable.{can-declare, not-declared-all, declared-names, declared-fit, never-unfit as never-unfit-names}
 use Rattle.labels.specs.declared.Set.{Set}
-use Rattle.labels.specs.declared.Set.the-variants.{Labels as Sets, Refused as NotSet}
-use Rattle.labels.specs.Answers.{labelsOf, Labels, labels, notSet, setAll, Setting}
+use Rattle.labels.specs.declared.Set.the-variants.{Labels as Sets, Refused as NotSet, Unfit as SetUnfit}
+use Rattle.labels.specs.Memory.{labelsOf}
+use Rattle.labels.specs.Internal.{Setting}
+use Rattle.labels.specs.Answers.{labels, refusal as setRefusal, setIn, setAll, setOf}
+use Rattle.labels.proofs.LabelTurns.{not-set-all, set-together, set-fit, never-unfit as never-unfit-labels}
 use Rattle.front_end_forms.specs.declared.Progress.{Progress}
 use Rattle.front_end_forms.specs.declared.Step.{Step}
-use Rattle.front_end_forms.specs.declared.Step.the-variants.{Further, Refused, Given}
-use Rattle.front_end_forms.specs.Answers.{partNumber, Holds, Comes, refuses, goes, gives, NoSheet}
+use Rattle.front_end_forms.specs.declared.Step.the-variants.{Further, Refused, Given, Unfit}
+use Rattle.front_end_forms.specs.Memory.{partNumber, Holds}
+use Rattle.front_end_forms.specs.Answers.{Comes, refuses, goes, gives, NoSheet}
 
 -- the outcome that a step stands for, where the outcome is known
 pub comes-refused : {P : Program → Progress → Type 0} {G : _} {o : Outcome} (n k : ℕ) → o ≡ refused n k → Comes P G (Refused n k) o
@@ -60,9 +66,10 @@ module _ (q : Program) (k : ℕ) (xs : List Lexeme) where
   declare-here instructions e = absurd (omega (arith, e))
 
 module _ (q : Program) (k : ℕ) (ns : List (List ℕ)) where
-  pub declare-twice : twice ≡ declaredAll (q .names) ns → declare q k ns ≡ refused 8 k
+  -- the number that the case has is that of the statement's refusal
+  pub declare-refused : (n : ℕ) → refusal n ≡ declaredAll (q .names) ns → declare q k ns ≡ refused n k
   unfolding pick
-  declare-twice e = rw (not-declared-all (q .names) ns e) refl
+  declare-refused n e = let t = not-declared-all (q .names) ns n e in rw (t .0, t .1) refl
 
   module _ (m : List (List ℕ)) (e : names m ≡ declaredAll (q .names) ns) where
     pub declare-many : 64 < length m → declare q k ns ≡ refused 11 k
@@ -79,39 +86,26 @@ module _ (q : Program) (k : ℕ) (ns : List (List ℕ)) where
 
 -- ---- labels
 
-abbrev isNotSet : Labels → ℕ
-isNotSet (labels ms) = 0
-isNotSet notSet = 1
-
-abbrev labelsOr : List Label → Labels → List Label
-labelsOr d (labels ms) = ms
-labelsOr d notSet = d
-
 module _ (q : Program) (k : ℕ) (ls : List ℕ) where
-  pub label-refused : notSet ≡ setAll (nextNumber q) (q .set) ls → (o : Outcome) → withLabels q k ls o ≡ refused 9 k
+  pub label-refused : (n : ℕ) → setRefusal n ≡ setAll (nextNumber q) (q .set) ls → (o : Outcome) → withLabels q k ls o ≡ refused n k
   unfolding pick
-  label-refused e o =
-      by-test
-      (canSet (nextNumber q) (q .set) ls)
-      (λ t. let z : _≡_ {A = ℕ} 1 0 = ap isNotSet (rw t at e) in absurd (omega arith))
-      (λ t. rw t refl)
+  label-refused n e o = let t = not-set-all (nextNumber q) (q .set) ls n e in rw (t .0, t .1) refl
 
   module _ (m : List Label) (e : labels m ≡ setAll (nextNumber q) (q .set) ls) where
     pub label-names : m ≡ q .set ++ labelsSet (nextNumber q) ls
-    unfolding pick
-    label-names =
-        by-test
-        (canSet (nextNumber q) (q .set) ls)
-        (λ t. ap (labelsOr m) (rw t at e))
-        (λ t. let z : _≡_ {A = ℕ} 0 1 = ap isNotSet (rw t at e) in absurd (omega arith))
+    label-names = set-together (nextNumber q) (q .set) ls m e .1
 
     pub label-set : (o : Outcome) → withLabels q k ls o ≡ o
     unfolding pick
-    label-set o =
-        by-test
-        (canSet (nextNumber q) (q .set) ls)
-        (λ t. rw t refl)
-        (λ t. let z : _≡_ {A = ℕ} 0 1 = ap isNotSet (rw t at e) in absurd (omega arith))
+    label-set o = rw (set-together (nextNumber q) (q .set) ls m e .0) refl
+
+-- ---- room
+
+pub both-fit : {v n : ℕ} → v ≤ 64 → n ≤ 128 → v + n ≤ 192
+both-fit h g = omega (arith, h, g)
+
+number-fits : {n : ℕ} → n < 1024 → n + 1 < 2048
+number-fits h = omega (arith, h)
 
 -- ---- what is held then
 
@@ -177,14 +171,21 @@ module _ {q : Program} {p : Progress} {ns ls ks vs : List ℕ} (h : Holds q p ns
 
   -- ---- a declaration
 
+  -- there is room for its names
+  pub declared-here : (xs : List Lexeme) (r : Declared) (after : List ℕ) → length (namesIn xs) ≤ 128 → declaredIn r after ≡ declaredOf (p .names) ns (namesIn xs)
+      → length after ≡ length ns → Declaring ns (p .names) (namesIn xs) r after
+  declared-here xs r after few told kept =
+      record { told = told ∙ declared-fit (p .names) ns (namesIn xs) (h .room-for-names) (both-fit (h .few-names) few); kept = kept }
+
   module _ (k : ℕ) (xs : List Lexeme) (here : p .part ≡ 1) {r : Declared} {after : List ℕ} (one : Declaring ns (p .names) (namesIn xs) r after) where
     declares : inOrder q (q .part) k xs declaration ≡ declare q k (namesIn xs)
     declares = declare-here q k xs (q .part) (sym (h .parted) ∙ here)
 
     pub comes-twice : r ≡ NotDeclared → Comes (λ o n. Holds o n after ls ks vs) NoSheet (Refused 8 k) (inOrder q (q .part) k xs declaration)
-    comes-twice e =
-        comes-refused 8 k
-        (declares ∙ declare-twice q k (namesIn xs) ((rw (e, h .named) at (one .told))))
+    comes-twice e = comes-refused 8 k (declares ∙ declare-refused q k (namesIn xs) 8 (rw (e, h .named) at (one .told)))
+
+    pub declared-fits : {A : Type 0} → r ≡ NotFit → A
+    declared-fits e = never-unfit-names (namesOf (p .names) ns) (namesIn xs) (rw e at (one .told))
 
     module _ (v : ℕ) (e : r ≡ Declares v) where
       known : names (namesOf v after) ≡ declaredAll (q .names) (namesIn xs)
@@ -206,12 +207,24 @@ module _ {q : Program} {p : Progress} {ns ls ks vs : List ℕ} (h : Holds q p ns
 
   -- ---- labels
 
+  -- there is room for them
+  pub set-here : (new : List ℕ) (r : Set) (after : List ℕ) → length new ≤ 128 → p .instructions < 1024 → setIn r after ≡ setOf (p .labels) ls (p .instructions + 1) new
+      → length after ≡ length ls → Setting ls (p .labels) (p .instructions + 1) new r after
+  set-here new r after many few told kept =
+      record {
+        told = told ∙ set-fit (p .labels) ls (p .instructions + 1) new (h .room-for-labels) (both-fit (h .few-labels) many) (number-fits few);
+        kept = kept;
+      }
+
   module _ (k : ℕ) (new : List ℕ) {r : Set} {after : List ℕ} (one : Setting ls (p .labels) (p .instructions + 1) new r after) where
-    pub numbered : p .instructions + 1 ≡ nextNumber q
+    numbered : p .instructions + 1 ≡ nextNumber q
     numbered = add-one (p .instructions) ∙ ap suc (h .counted)
 
     pub comes-unset : r ≡ NotSet → Comes (λ o n. Holds o n ns after ks vs) NoSheet (Refused 9 k) (labelling q k new)
-    comes-unset e = comes-refused 9 k (label-refused q k new (rw (e, h .labelled, numbered) at (one .told)) _)
+    comes-unset e = comes-refused 9 k (label-refused q k new 9 (rw (e, h .labelled, numbered) at (one .told)) _)
+
+    pub labels-fit : {A : Type 0} → r ≡ SetUnfit → A
+    labels-fit e = never-unfit-labels (p .instructions + 1) (labelsOf (p .labels) ls) new (rw e at (one .told))
 
     module _ (c : ℕ) (e : r ≡ Sets c) where
       told : labels (labelsOf c after) ≡ setAll (nextNumber q) (q .set) new
@@ -225,7 +238,7 @@ module _ {q : Program} {p : Progress} {ns ls ks vs : List ℕ} (h : Holds q p ns
 
       pub comes-over : 64 < c → Comes (λ o n. Holds o n ns after ks vs) NoSheet (Refused 11 k) (labelling q k new)
       unfolding pick
-      comes-over many = comes-refused 11 k (label-set q k new (labelsOf c after) told _ ∙ rw (count, lt-ltb 64 c many) refl)
+      comes-over over = comes-refused 11 k (label-set q k new (labelsOf c after) told _ ∙ rw (count, lt-ltb 64 c over) refl)
 
       pub comes-labelled : c ≤ 64
           → Comes (λ o n. Holds o n ns after ks vs) NoSheet
@@ -238,14 +251,6 @@ module _ {q : Program} {p : Progress} {ns ls ks vs : List ℕ} (h : Holds q p ns
           _
           (label-set q k new (labelsOf c after) told _ ∙ rw (count, le-ltb 64 c few) refl)
           (holds-labelled c after new all-labels few (one .kept))
-
--- ---- room
-
-pub both-fit : {v n : ℕ} → v ≤ 64 → n ≤ 128 → v + n ≤ 192
-both-fit h g = omega (arith, h, g)
-
-pub number-fits : {n : ℕ} → n < 1024 → n + 1 < 2048
-number-fits h = omega (arith, h)
 
 -- ---- what a step says of its outcome
 
@@ -263,6 +268,7 @@ abbrev pub Says : (Program → Progress → Type 0) → (Sheet → Type 0) → S
 Says P G (Further p) o = Went P p o
 Says P G (Refused n k) o = o ≡ refused n k
 Says P G Given o = Gave G o
+Says P G Unfit o = ⊥
 
 pub says : {P : Program → Progress → Type 0} {G : Sheet → Type 0} {r : Step} {o : Outcome} → Comes P G r o → Says P G r o
 says (refuses n k) = refl

@@ -1,64 +1,25 @@
--- A program in memory, and what a statement of each form does to it, stated of every program that the arguments hold.
-use Prim.Native.Nat.{ℕ, _*_, _≤_, _<_}
-use mathlib.Core.Bool.{true}
+-- What a statement of each form does to a program in memory, stated of every program that the arguments hold. Nothing is said of
+-- arguments that hold none: the layer calls its functions with none such.
+use Prim.Native.Nat.{ℕ, _≤_, _<_}
 use mathlib.Core.Path.{_≡_}
-use mathlib.Core.List.{List, [], _∷_, _++_, map}
+use mathlib.Core.List.{List}
 use lib.ListN.{length}
-use Rattle.order.specs.Limits.{mostVariables, mostOrders}
+use Rattle.order.specs.Limits.{mostOrders}
 use Rattle.sheet.specs.declared.Field.{Field}
-use Rattle.sheet.specs.Sheet.{Instruction, Sheet, variables, instructions as instructionsOf}
-use Rattle.sheet.specs.Fields.{instructionFields, sheetFields}
-use Rattle.sheet.specs.Translation.{ordersOfAll}
-use Rattle.sheet_field.specs.Memory.{fieldsFrom, mostFields}
-use Rattle.source.specs.Limits.{mostCells, mostLabels}
+use Rattle.sheet.specs.Sheet.{Instruction, Sheet}
+use Rattle.sheet.specs.Fields.{instructionFields}
+use Rattle.sheet_field.specs.Memory.{mostFields}
+use Rattle.source.specs.Limits.{mostCells}
 use Rattle.source.specs.Tokens.{Lexeme}
 use Rattle.source.specs.Grammar.{beginning, declaration, ending, labels as labelled-by, instruction as labelled-instruction}
-use Rattle.source.specs.Memory.{tableRows}
-use Rattle.source.specs.Program.{Program, Part, nothing, declarations, instructions, Placed, placed, instructionOf, Outcome, refused, further, given}
-use Rattle.source.specs.Program.{namesIn, jumpsIn, all, isLabel, inOrder}
-use Rattle.names.specs.Answers.{namesOf}
-use Rattle.labels.specs.Answers.{labelsOf}
-use Rattle.fields.specs.Answers.{packedField, statementNumbers}
+use Rattle.source.specs.Program.{Program, Outcome, refused, further, given, namesIn, inOrder}
+use Rattle.fields.specs.Memory.{statementNumbers}
 use Rattle.front_end_forms.specs.declared.Progress.{Progress}
 use Rattle.front_end_forms.specs.declared.Step.{Step}
-use Rattle.front_end_forms.specs.declared.Step.the-variants.{Further, Refused, Given}
+use Rattle.front_end_forms.specs.declared.Step.the-variants.{Further, Refused, Given, Unfit}
+use Rattle.front_end_forms.specs.Memory.{Holds, Held}
 
-abbrev pub partNumber : Part → ℕ
-partNumber nothing = 0
-partNumber declarations = 1
-partNumber instructions = 2
-
--- the fields of placed instructions in memory, where a jump carries its statement's number too
-unfoldable pub placedFields : List Placed → List Field
-placedFields [] = []
-placedFields (placed k i ∷ ps) = map (packedField k) (instructionFields i) ++ placedFields ps
-
--- that the numbers of statements and labels leave room for each other
-unfoldable pub AllPacked : List Placed → Type 0
-AllPacked [] = Unit {0}
-AllPacked (placed k i ∷ ps) = (k < statementNumbers) × (all isLabel (jumpsIn (instructionFields i)) ≡ true) × AllPacked ps
-
-abbrev pub noProgress : Progress
-noProgress = record { part = 0; names = 0; labels = 0; fields = 0; instructions = 0; orders = 0 }
-
--- what holds of numbers and arrays that hold the program q
-pub record Holds (q : Program) (p : Progress) (names labels kinds values : List ℕ) : Type 0 where
-  pub parted : p .part ≡ partNumber (q .part)
-  pub named : namesOf (p .names) names ≡ q .names
-  pub labelled : labelsOf (p .labels) labels ≡ q .set
-  pub fielded : fieldsFrom 0 (p .fields) kinds values ≡ placedFields (q .placed-in)
-  pub counted : p .instructions ≡ length (q .placed-in)
-  pub ordered : (v : ℕ) → p .orders ≡ ordersOfAll v (map instructionOf (q .placed-in))
-  pub packed : AllPacked (q .placed-in)
-  pub few-names : p .names ≤ mostVariables
-  pub few-labels : p .labels ≤ mostLabels
-  pub few-orders : p .orders < mostOrders
-  pub room-for-names : length names ≡ tableRows * 256
-  pub room-for-labels : length labels ≡ tableRows
-  pub room-for-kinds : length kinds ≡ mostFields
-  pub room-for-values : length values ≡ mostFields
-
--- a step and the outcome that it stands for: P holds of a program that goes on, G of a sheet
+-- a step and the outcome that it stands for: P holds of a program that goes on, G of a sheet. No outcome is unfit.
 pub data Comes (P : Program → Progress → Type 0) (G : Sheet → Type 0) : Step → Outcome → Type 0 where
   refuses : (n k : ℕ) → Comes P G (Refused n k) (refused n k)
   goes : (q : Program) (p : Progress) → P q p → Comes P G (Further p) (further q)
@@ -66,12 +27,6 @@ pub data Comes (P : Program → Progress → Type 0) (G : Sheet → Type 0) : St
 
 abbrev pub NoSheet : Sheet → Type 0
 NoSheet s = ⊥
-
--- the sheet that the program is, in memory
-pub record Held (p : Progress) (kinds values : List ℕ) (s : Sheet) : Type 0 where
-  pub variables-too : p .names ≡ variables s
-  pub instructions-too : p .instructions ≡ length (instructionsOf s)
-  pub fields-too : fieldsFrom 0 (p .fields) kinds values ≡ sheetFields s
 
 -- %BEGIN
 abbrev pub Begins : Progress → ℕ → Step → Type 0
@@ -98,6 +53,7 @@ abbrev pub KeepsCounts : Progress → Step → Type 0
 KeepsCounts p (Further n) = SameCounts p n
 KeepsCounts p (Refused n k) = Unit {0}
 KeepsCounts p Given = Unit {0}
+KeepsCounts p Unfit = Unit {0}
 
 -- the labels ls of a statement
 abbrev pub SetsLabels : Progress → ℕ → List ℕ → List ℕ → Step → List ℕ → Type 0
@@ -127,4 +83,4 @@ Finishes p k ls ks before r after =
 
 -- counts that leave room for one instruction more
 abbrev pub FewCounts : Progress → Type 0
-FewCounts p = (p .instructions < mostOrders) × (p .fields < 4096) × (p .orders < mostOrders)
+FewCounts p = (p .instructions < mostOrders) × (p .fields ≤ mostFields) × (p .orders < mostOrders)

@@ -1,5 +1,6 @@
 // What a statement of each form does to the program so far, document 01: names, labels, limits, and its place in the sheet.
 use fields::Led;
+use fields::Put;
 use fields::all_known;
 use fields::append;
 use fields::good_jumps;
@@ -19,8 +20,9 @@ ghost use Rattle.order.specs.Limits.{mostOrders};
 ghost use Rattle.sheet_field.specs.Memory.{fieldsFrom};
 ghost use Rattle.source.specs.Limits.{mostCells};
 ghost use Rattle.source.specs.Memory.{lexemesFrom};
-ghost use Rattle.labels.specs.Answers.{labelsAt};
-ghost use Rattle.front_end_forms.specs.Answers.{Begins, Declares, KeepsCounts, SetsLabels, Instructs, Finishes, noProgress};
+ghost use Rattle.labels.specs.Memory.{labelsAt};
+ghost use Rattle.front_end_forms.specs.Memory.{noProgress};
+ghost use Rattle.front_end_forms.specs.Answers.{Begins, Declares, KeepsCounts, SetsLabels, Instructs, Finishes, FewCounts};
 ghost use Rattle.front_end_forms.specs.Internal.{Places};
 
 // How far a program was read: which part of it (0 nothing, 1 declarations, 2 instructions), and how many names, labels,
@@ -34,11 +36,13 @@ pub struct Progress {
     pub orders: u32,
 }
 
-// What comes of a statement: the program goes on, is refused with a number and a place, or is a whole sheet.
+// What comes of a statement: the program goes on, is refused with a number and a place, or is a whole sheet; or what is given is
+// not fit: the statement is too long, or the arrays hold no program.
 pub enum Step {
     Further(Progress),
     Refused(u32, u32),
     Given,
+    Unfit,
 }
 
 pub fn nothing_read() -> Progress
@@ -86,20 +90,23 @@ pub fn declaration(
     if p.part != 1 {
         return Step::Refused(7, k);
     }
-    let Declared::Names(v) = declare(cells, kinds, values, n, names, p.names) else {
-        return Step::Refused(8, k);
-    };
-    if MOST_VARIABLES < v as u32 {
-        return Step::Refused(11, k);
+    match declare(cells, kinds, values, n, names, p.names) {
+        Declared::Names(v) => {
+            if MOST_VARIABLES < v as u32 {
+                return Step::Refused(11, k);
+            }
+            Step::Further(Progress {
+                part: 1,
+                names: v,
+                labels: p.labels,
+                fields: p.fields,
+                instructions: p.instructions,
+                orders: p.orders,
+            })
+        }
+        Declared::Refused => Step::Refused(8, k),
+        Declared::Unfit => Step::Unfit,
     }
-    Step::Further(Progress {
-        part: 1,
-        names: v,
-        labels: p.labels,
-        fields: p.fields,
-        instructions: p.instructions,
-        orders: p.orders,
-    })
 }
 
 // The labels of a statement.
@@ -118,21 +125,23 @@ pub fn label(
     if p.part == 0 {
         return Step::Refused(7, k);
     }
-    let Set::Labels(c) = set_labels(kinds, values, many, labels, p.labels, p.instructions + 1)
-    else {
-        return Step::Refused(9, k);
-    };
-    if MOST_LABELS < c {
-        return Step::Refused(11, k);
+    match set_labels(kinds, values, many, labels, p.labels, p.instructions + 1) {
+        Set::Labels(c) => {
+            if MOST_LABELS < c {
+                return Step::Refused(11, k);
+            }
+            Step::Further(Progress {
+                part: 2,
+                names: p.names,
+                labels: c,
+                fields: p.fields,
+                instructions: p.instructions,
+                orders: p.orders,
+            })
+        }
+        Set::Refused => Step::Refused(9, k),
+        Set::Unfit => Step::Unfit,
     }
-    Step::Further(Progress {
-        part: 2,
-        names: p.names,
-        labels: c,
-        fields: p.fields,
-        instructions: p.instructions,
-        orders: p.orders,
-    })
 }
 
 // An instruction behind its labels: the limits, and its place behind the others.
@@ -145,7 +154,7 @@ fn place(
     kinds: &mut [u8],
     values: &mut [u32],
 ) -> Step
-    requires { ⌜ (p .instructions < mostOrders) × (p .fields < 4096) × (p .orders < mostOrders) × (m ≤ mostCells) ⌝ }
+    requires { ⌜ FewCounts p × (m ≤ mostCells) ⌝ }
     ensures { λ r. ⌜ Places p k (fieldsFrom 0 m (now (own .entry)) (now (carried .entry))) (now (kinds .entry)) (now (values .entry)) r (now (kinds .exit)) (now (values .exit)) ⌝ }
 {
     let size = size_of(own, carried, m, 0);
@@ -155,12 +164,14 @@ fn place(
     if MOST_ORDERS - p.orders <= size.orders {
         return Step::Refused(11, k);
     }
-    append(own, carried, m, k, kinds, values, p.fields);
+    let Put::Fields(fields) = append(own, carried, m, k, kinds, values, p.fields) else {
+        return Step::Unfit;
+    };
     Step::Further(Progress {
         part: 2,
         names: p.names,
         labels: p.labels,
-        fields: p.fields + m,
+        fields: fields,
         instructions: p.instructions + 1,
         orders: p.orders + size.orders,
     })
@@ -180,7 +191,7 @@ pub fn instruction(
     kinds: &mut [u8],
     values: &mut [u32],
 ) -> Step
-    requires { ⌜ (p .instructions < mostOrders) × (p .fields < 4096) × (p .orders < mostOrders) × (m ≤ mostCells) ⌝ }
+    requires { ⌜ FewCounts p × (m ≤ mostCells) ⌝ }
     ensures { λ r. ⌜ Instructs p k (labelsAt many (now (tokens .entry)) (now (words .entry))) (fieldsFrom 0 m (now (own .entry)) (now (carried .entry))) (now (labels .entry)) (now (kinds .entry)) (now (values .entry)) r (now (labels .exit)) (now (kinds .exit)) (now (values .exit)) ⌝ }
 {
     if p.part == 0 {
@@ -192,6 +203,7 @@ pub fn instruction(
                 Step::Further(q) => place(q, k, own, carried, m, kinds, values),
                 Step::Refused(n, at) => Step::Refused(n, at),
                 Step::Given => Step::Given,
+                Step::Unfit => Step::Unfit,
             };
         }
         return Step::Refused(9, k);
@@ -209,5 +221,6 @@ pub fn finish(p: Progress, k: u32, labels: &[u32], kinds: &[u8], values: &mut [u
     match lead_jumps(kinds, values, p.fields, labels, p.labels) {
         Led::All => Step::Given,
         Led::Unset(s) => Step::Refused(9, s),
+        Led::Unfit => Step::Unfit,
     }
 }

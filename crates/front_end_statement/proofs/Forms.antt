@@ -17,7 +17,7 @@ use Rattle.sheet_field.proofs.Stored.{fields-length}
 use Rattle.source.specs.declared.Token.{Token}
 use Rattle.source.specs.declared.Token.the-variants.{Name, Number, Quoted, Binary, Compare, Mark}
 use Rattle.source.specs.declared.Statement.{Statement}
-use Rattle.source.specs.Tokens.{Lexeme, name, token, lexed, markInteger, markBegin, markEnd, markComma, lexemes, refused as wrong}
+use Rattle.source.specs.Tokens.{Lexeme, name, token, Lexed, lexed, markInteger, markBegin, markEnd, markComma, lexemes, refused as wrong}
 use Rattle.source.specs.Grammar.{Form, beginning, declaration, ending, labels, instruction, noForm, behindFirst, opens, isName, isMark, isNameList}
 use Rattle.source.specs.Grammar.{form, alone, Labelled, labelled as labelledTokens, labelledForm, labelsAt as labelsBefore, whole, instructionAt}
 use Rattle.source.specs.Grammar.{Read, read, none}
@@ -25,13 +25,14 @@ use Rattle.source.specs.Memory.{tokensFrom, lexemeOf, lexemesFrom, held}
 use Rattle.source.specs.Program.{lookedUp, namesIn, Program, Part, nothing, declarations, instructions, inOrder, refused, statement, Outcome, onLexed}
 use Rattle.source.proofs.Stored.{lexemes-each}
 use Rattle.tokens.specs.declared.Lexed.{Lexed as Lexing}
-use Rattle.tokens.specs.declared.Lexed.the-variants.{Tokens, Refused as Wrong}
-use Rattle.tokens.specs.Answers.{lexedIn, Few as FewTokens}
+use Rattle.tokens.specs.declared.Lexed.the-variants.{Tokens, Refused as Wrong, Unfit as NotFit}
+use Rattle.tokens.specs.Answers.{Told as ToldTokens, told as toldTokens, unfit as unfitTokens, lexedIn, lexedOf, Few as FewTokens}
+use Rattle.tokens.proofs.Scanning.{lexed-fit, told-short}
 use Rattle.grammar.specs.declared.Form.{Form as Answer}
-use Rattle.grammar.specs.declared.Form.the-variants.{Begin, Declaration, End, Labels, Instruction, Nothing}
-use Rattle.grammar.specs.Answers.{Few, told, Told, begins, declares, ends, labels as labelled, instruction as instructs, nothing as noTold, fieldsOf}
+use Rattle.grammar.specs.declared.Form.the-variants.{Begin, Declaration, End, Labels, Instruction, Nothing, Unfit}
+use Rattle.grammar.specs.Answers.{Few, told, Told, begins, declares, ends, labels as labelled, instruction as instructs, refusal as noTold, unfit, fieldsOf}
 use Rattle.grammar.specs.Answers.{labelsIn}
-use Rattle.labels.specs.Answers.{labelsAt, labelHere}
+use Rattle.labels.specs.Memory.{labelsAt, labelHere}
 use Rattle.front_end_forms.specs.declared.Progress.{Progress}
 use Rattle.front_end_forms.specs.declared.Step.{Step}
 use Rattle.front_end_forms.specs.declared.Step.the-variants.{Refused}
@@ -46,7 +47,8 @@ number declares = 1
 number ends = 2
 number (labelled ls) = 3
 number (instructs ls fs) = 4
-number noTold = 5
+number (noTold n) = 5
+number unfit = 6
 
 abbrev formNumber : Form → ℕ
 formNumber beginning = 0
@@ -70,7 +72,8 @@ labelsTold d declares = d
 labelsTold d ends = d
 labelsTold d (labelled ls) = ls
 labelsTold d (instructs ls fs) = ls
-labelsTold d noTold = d
+labelsTold d (noTold n) = d
+labelsTold d unfit = d
 
 abbrev fieldsTold : List Field → Told → List Field
 fieldsTold d begins = d
@@ -78,7 +81,17 @@ fieldsTold d declares = d
 fieldsTold d ends = d
 fieldsTold d (labelled ls) = d
 fieldsTold d (instructs ls fs) = fs
-fieldsTold d noTold = d
+fieldsTold d (noTold n) = d
+fieldsTold d unfit = d
+
+abbrev refusalTold : ℕ → Told → ℕ
+refusalTold d begins = d
+refusalTold d declares = d
+refusalTold d ends = d
+refusalTold d (labelled ls) = d
+refusalTold d (instructs ls fs) = d
+refusalTold d (noTold n) = n
+refusalTold d unfit = d
 
 module _ {A : Type 0} where
   other : (g : Form) {t : Told} (n : ℕ) → t ≡ fieldsOf g → number t ≡ n → (formNumber g ≡ n → ⊥) → A
@@ -116,13 +129,22 @@ is-labels (labels ms) ls e = ap labels (sym (ap (labelsTold ls) e))
 is-labels (instruction ms i) ls e = other (instruction ms i) 3 e refl (λ z. absurd (omega (arith, z)))
 is-labels noForm ls e = other noForm 3 e refl (λ z. absurd (omega (arith, z)))
 
-pub is-nothing : (g : Form) → noTold ≡ fieldsOf g → g ≡ noForm
-is-nothing beginning e = other beginning 5 e refl (λ z. absurd (omega (arith, z)))
-is-nothing declaration e = other declaration 5 e refl (λ z. absurd (omega (arith, z)))
-is-nothing ending e = other ending 5 e refl (λ z. absurd (omega (arith, z)))
-is-nothing (labels ls) e = other (labels ls) 5 e refl (λ z. absurd (omega (arith, z)))
-is-nothing (instruction ls i) e = other (instruction ls i) 5 e refl (λ z. absurd (omega (arith, z)))
-is-nothing noForm e = refl
+-- no form, with the number of its refusal
+pub is-nothing : (g : Form) (n : ℕ) → noTold n ≡ fieldsOf g → (g ≡ noForm) × (n ≡ 7)
+is-nothing beginning n e = other beginning 5 e refl (λ z. absurd (omega (arith, z)))
+is-nothing declaration n e = other declaration 5 e refl (λ z. absurd (omega (arith, z)))
+is-nothing ending n e = other ending 5 e refl (λ z. absurd (omega (arith, z)))
+is-nothing (labels ls) n e = other (labels ls) 5 e refl (λ z. absurd (omega (arith, z)))
+is-nothing (instruction ls i) n e = other (instruction ls i) 5 e refl (λ z. absurd (omega (arith, z)))
+is-nothing noForm n e = (refl, ap (refusalTold n) e)
+
+pub never-unfit : {A : Type 0} (g : Form) → unfit ≡ fieldsOf g → A
+never-unfit beginning e = other beginning 6 e refl (λ z. absurd (omega (arith, z)))
+never-unfit declaration e = other declaration 6 e refl (λ z. absurd (omega (arith, z)))
+never-unfit ending e = other ending 6 e refl (λ z. absurd (omega (arith, z)))
+never-unfit (labels ls) e = other (labels ls) 6 e refl (λ z. absurd (omega (arith, z)))
+never-unfit (instruction ls i) e = other (instruction ls i) 6 e refl (λ z. absurd (omega (arith, z)))
+never-unfit noForm e = other noForm 6 e refl (λ z. absurd (omega (arith, z)))
 
 -- an instruction with these labels and fields
 pub record IsInstruction (g : Form) (ls : List ℕ) (fs : List Field) : Type 0 where
@@ -273,8 +295,9 @@ no-form q k xs declarations = refl
 no-form q k xs instructions = refl
 
 module _ (q : Program) (k : ℕ) (xs : List Lexeme) (g : Form) {P : Program → Progress → Type 0} {G : Sheet → Type 0} where
-  pub on-nothing : noTold ≡ fieldsOf g → Comes P G (Refused 7 k) (inOrder q (q .part) k xs g)
-  on-nothing e = rw (is-nothing g e) (comes-refused 7 k (no-form q k xs (q .part)))
+  -- the number that the case has is that of the statement's refusal
+  pub on-nothing : (n : ℕ) → noTold n ≡ fieldsOf g → Comes P G (Refused n k) (inOrder q (q .part) k xs g)
+  on-nothing n e = let t = is-nothing g n e in rw (t .0, t .1) (comes-refused 7 k (no-form q k xs (q .part)))
 
   module _ {r : Step} where
     pub on-begin : begins ≡ fieldsOf g → Comes P NoSheet r (inOrder q (q .part) k xs beginning) → Comes P G r (inOrder q (q .part) k xs g)
@@ -307,8 +330,11 @@ module _ (n : ℕ) (ks vs own carried : List ℕ) {f : Answer} (g : Form) (e : t
   pub told-end : f ≡ End → ends ≡ fieldsOf g
   told-end z = rw z at e
 
-  pub told-nothing : f ≡ Nothing → noTold ≡ fieldsOf g
+  pub told-nothing : f ≡ Nothing → noTold 7 ≡ fieldsOf g
   told-nothing z = rw z at e
+
+  pub told-unfit : f ≡ Unfit → unfit ≡ fieldsOf g
+  told-unfit z = rw z at e
 
 module _ (n : ℕ) (ks vs own carried : List ℕ) {f : Answer} (g : Form) (e : told (tokensFrom 0 n ks vs) f own carried ≡ fieldsOf g) (few : Few n f) where
   pub told-labels : (c : ℕ) → f ≡ Labels c → labelled (labelsAt c ks vs) ≡ fieldsOf g
@@ -358,11 +384,23 @@ module _ (q : Program) (k n : ℕ) (cells ks vs ws : List ℕ) (short : n ≤ 25
       → Comes P G r (onLexed q k (lexed (lexemesFrom 0 n cells ks vs)))
   by-tokens one = rw (← same) one
 
-pub looked-up : {ms : List (List ℕ)} (q : Program) (n : ℕ) (cells ks vs : List ℕ) {ts : List Token}
-    → ts ≡ map (lookedUp ms) (lexemesFrom 0 n cells ks vs) → ms ≡ q .names → ts ≡ map (lookedUp (q .names)) (lexemesFrom 0 n cells ks vs)
-looked-up q n cells ks vs e named = e ∙ ap (λ ms. map (lookedUp ms) (lexemesFrom 0 n cells ks vs)) named
+-- the words of all tokens, where there is a place for each
+pub looked-up : {ms : List (List ℕ)} (q : Program) (n room : ℕ) (cells ks vs ws : List ℕ)
+    → tokensFrom 0 (min n room) ks ws ≡ map (lookedUp ms) (lexemesFrom 0 (min n room) cells ks vs) → n ≤ room → ms ≡ q .names
+    → tokensFrom 0 n ks ws ≡ map (lookedUp (q .names)) (lexemesFrom 0 n cells ks vs)
+looked-up q n room cells ks vs ws e h named =
+    let all : min n room ≡ n = omega (arith, h) in
+    (rw all at e) ∙ ap (λ ms. map (lookedUp ms) (lexemesFrom 0 n cells ks vs)) named
 
 -- ---- a statement by its cells
+
+abbrev toldCase : ToldTokens → ℕ
+toldCase (toldTokens l) = 0
+toldCase unfitTokens = 1
+
+abbrev lexedTold : ToldTokens → Lexed
+lexedTold (toldTokens l) = l
+lexedTold unfitTokens = wrong 0
 
 module _ (s : Statement) where
   pub few-told : {r : Lexing} (n : ℕ) → FewTokens s r → r ≡ Tokens n → s .length < 256 → n ≤ 256
@@ -371,11 +409,30 @@ module _ (s : Statement) where
       let l : length (held s) ≡ min (s .length) (length (s .cells)) = length-take (s .length) (s .cells) in
       omega (arith, g, l, h)
 
-  module _ (q : Program) (k : ℕ) (r : Lexing) (ks vs : List ℕ) (e : lexedIn (held s) r ks vs ≡ lexemes (held s)) {P : Program → Progress → Type 0} {G : Sheet → Type 0} where
-    pub by-cells : (n : ℕ) {o : Step} → r ≡ Tokens n → Comes P G o (onLexed q k (lexed (lexemesFrom 0 n (held s) ks vs))) → Comes P G o (statement q k (held s))
-    unfolding statement
-    by-cells n z one = let t : lexed (lexemesFrom 0 n (held s) ks vs) ≡ lexemes (held s) = rw z at e in rw (← t) one
+  module _ (r : Lexing) (before-ks before-vs ks vs : List ℕ) (e : lexedIn (held s) r ks vs ≡ lexedOf s before-ks before-vs) where
+    -- what has tokens, or is refused, is short
+    pub short-tokens : (n : ℕ) → r ≡ Tokens n → s .length < 256
+    short-tokens n z = told-short s before-ks before-vs _ (rw z at e)
 
-    pub by-refusal : (n : ℕ) → r ≡ Wrong n → Comes P G (Refused n k) (statement q k (held s))
-    unfolding statement
-    by-refusal n z = let t : wrong n ≡ lexemes (held s) = rw z at e in comes-refused n k (ap (onLexed q k) (sym t))
+    pub short-refused : (n : ℕ) → r ≡ Wrong n → s .length < 256
+    short-refused n z = told-short s before-ks before-vs _ (rw z at e)
+
+    module _ (short : s .length < 256) (room : 256 ≤ length before-ks) (other-room : 256 ≤ length before-vs) where
+      all-told : lexedIn (held s) r ks vs ≡ toldTokens (lexemes (held s))
+      all-told = e ∙ lexed-fit s before-ks before-vs short room other-room
+
+      pub tokens-fit : {A : Type 0} → r ≡ NotFit → A
+      tokens-fit z = let n : _≡_ {A = ℕ} 1 0 = ap toldCase (rw z at all-told) in absurd (omega arith)
+
+      module _ (q : Program) (k : ℕ) {P : Program → Progress → Type 0} {G : Sheet → Type 0} where
+        pub by-cells : (n : ℕ) {o : Step} → r ≡ Tokens n → Comes P G o (onLexed q k (lexed (lexemesFrom 0 n (held s) ks vs))) → Comes P G o (statement q k (held s))
+        unfolding statement
+        by-cells n z one =
+            let t : lexed (lexemesFrom 0 n (held s) ks vs) ≡ lexemes (held s) = ap lexedTold (rw z at all-told) in
+            rw (← t) one
+
+        pub by-refusal : (n : ℕ) → r ≡ Wrong n → Comes P G (Refused n k) (statement q k (held s))
+        unfolding statement
+        by-refusal n z =
+            let t : wrong n ≡ lexemes (held s) = ap lexedTold (rw z at all-told) in
+            comes-refused n k (ap (onLexed q k) (sym t))

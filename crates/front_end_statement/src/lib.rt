@@ -63,6 +63,7 @@ fn dispatch(
             )
         }
         Form::Nothing => Step::Refused(7, k),
+        Form::Unfit => Step::Unfit,
     }
 }
 
@@ -105,7 +106,7 @@ fn on_tokens(
     )
 }
 
-// A statement, number k.
+// A statement, number k. One that no end mark fits behind is unfit.
 pub fn statement(
     s: Statement,
     p: Progress,
@@ -119,9 +120,6 @@ pub fn statement(
     ensures { λ r. ⌜ OnStatement p k (s .length) (held s) (now (names .entry)) (now (labels .entry)) (now (kinds .entry)) (now (values .entry)) r (now (names .exit)) (now (labels .exit)) (now (kinds .exit)) (now (values .exit)) ⌝ }
 {
     let length = s.length;
-    if MOST_CELLS <= length {
-        return Step::Refused(4, k);
-    }
     let mut found = [0u8; MOST_CELLS];
     let mut spelled = [0u32; MOST_CELLS];
     match tokens(s, &mut found, &mut spelled) {
@@ -138,5 +136,6 @@ pub fn statement(
             values,
         ),
         Lexed::Refused(e) => Step::Refused(e, k),
+        Lexed::Unfit => Step::Unfit,
     }
 }

@@ -5,14 +5,17 @@ use mathlib.Core.Bool.{Bool, true, false}
 use mathlib.Core.List.{List, [], _∷_, _++_, append-nil, append-assoc}
 use native.Mathlib.Omega.{arith}
 use native.Mathlib.Numerals.{add-one}
+use borrow.Author.Tests.{leb-true, le-leb}
+use lib.Dec.{leb}
 use lib.ListN.{length, getD}
 use Rattle.base.specs.Choice.{pick}
-use Rattle.base.proofs.Cases.{pick-yes, pick-no}
+use Rattle.base.proofs.Cases.{pick-yes, pick-no, both-yes}
 use Rattle.sheet.specs.declared.Field.{Field}
 use Rattle.sheet.specs.Sheet.{Instruction}
 use Rattle.sheet.specs.Fields.{instructionFields}
 use Rattle.source.specs.declared.Token.{Token}
 use Rattle.source.specs.declared.Token.the-variants.{Name, Number, Quoted, Binary, Compare, Mark}
+use Rattle.source.specs.Limits.{mostCells}
 use Rattle.source.specs.Tokens.{markBegin, markEnd, markInteger, markComma, markColon}
 use Rattle.source.specs.Grammar.{Read, read, none, opens, behindFirst, isMark, isName, isNameList, instructionAt}
 use Rattle.source.specs.Grammar.{Labelled, labelled, further, labelsAt, labelledForm, whole, alone, form, Form}
@@ -22,7 +25,7 @@ use Rattle.grammar_look.specs.Internal.{left, firstName, firstLabel, isNumber}
 use Rattle.grammar_look.proofs.Places.{left-length, left-more, left-none, left-behind, left-two, left-one}
 use Rattle.grammar_expression.specs.Internal.{written}
 use Rattle.grammar_instruction.specs.Internal.{instructionPass}
-use Rattle.grammar.specs.Answers.{begins, declares, ends, labels as labelsTold, instruction as instructionTold, nothing, fieldsOf}
+use Rattle.grammar.specs.Answers.{begins, declares, ends, labels as labelsTold, instruction as instructionTold, refusal, unfit, fieldsOf, fit, toldOf}
 use Rattle.grammar.specs.Answers.{labelsIn}
 use Rattle.grammar.specs.Internal.{furtherAll, LabelsOf}
 
@@ -110,7 +113,7 @@ unfolding labelledForm
 clause ls t ts = refl
 
 missing-form : (ls : List ℕ) (fs : List Field) (x : Read Instruction) → none ≡ written instructionFields fs x
-    → fieldsOf (whole ls x) ≡ nothing
+    → fieldsOf (whole ls x) ≡ refusal 7
 unfolding written
 missing-form ls fs none e = refl
 missing-form ls fs (read i rest) e = let z : _≡_ {A = ℕ} 0 1 = cc in absurd (omega arith)
@@ -124,7 +127,7 @@ whole-form ls gs rest (read i (t ∷ ts)) e h = let z : _≡_ {A = ℕ} 0 1 = cc
 
 longer-form : (ls : List ℕ) (gs : List Field) (rest : List Token) (x : Read Instruction)
     → read gs rest ≡ written instructionFields [] x → (t : Token) (ts : List Token) → rest ≡ t ∷ ts
-    → fieldsOf (whole ls x) ≡ nothing
+    → fieldsOf (whole ls x) ≡ refusal 7
 unfolding written
 longer-form ls gs rest none e t ts h = refl
 longer-form ls gs rest (read i []) e t ts h = let z : _≡_ {A = ℕ} 0 1 = cc in absurd (omega arith)
@@ -245,12 +248,12 @@ module _ (ks vs : List ℕ) where
         one-more t ts = clause (labelsIn c (tokensFrom 0 n ks vs)) t ts
 
     pub no-instruction : (fs : List Field) → (2 * c ≡ n → ⊥) → none ≡ instructionPass fs (left n (2 * c) ks vs)
-        → nothing ≡ fieldsOf (labelledForm (labelsAt (tokensFrom 0 n ks vs)))
+        → refusal 7 ≡ fieldsOf (labelledForm (labelsAt (tokensFrom 0 n ks vs)))
     no-instruction fs h e =
         sym (ap fieldsOf (instruction-form h) ∙ go (instructionAt (left n (2 * c) ks vs)) e)
       where
         go : (x : Read Instruction) → none ≡ written instructionFields fs x
-            → fieldsOf (whole (labelsIn c (tokensFrom 0 n ks vs)) x) ≡ nothing
+            → fieldsOf (whole (labelsIn c (tokensFrom 0 n ks vs)) x) ≡ refusal 7
         go x d = missing-form (labelsIn c (tokensFrom 0 n ks vs)) fs x d
 
     pub whole-instruction : (gs : List Field) (a : ℕ) → (2 * c ≡ n → ⊥) → a ≡ n
@@ -264,7 +267,7 @@ module _ (ks vs : List ℕ) where
 
     pub more-behind : (gs : List Field) (a : ℕ) → (2 * c ≡ n → ⊥) → (a ≡ n → ⊥) → a ≤ n
         → read gs (left n a ks vs) ≡ instructionPass [] (left n (2 * c) ks vs)
-        → nothing ≡ fieldsOf (labelledForm (labelsAt (tokensFrom 0 n ks vs)))
+        → refusal 7 ≡ fieldsOf (labelledForm (labelsAt (tokensFrom 0 n ks vs)))
     more-behind gs a h i j e =
         sym
         (ap fieldsOf (instruction-form h)
@@ -309,7 +312,7 @@ module _ (ks vs : List ℕ) (n : ℕ) where
     unfolding all
     begin-alone e = sym (ap fieldsOf (begin-form ∙ one-behind beginning all (all-length ∙ e)))
 
-    pub begin-more : (n ≡ 1 → ⊥) → nothing ≡ fieldsOf (form (tokensFrom 0 n ks vs))
+    pub begin-more : (n ≡ 1 → ⊥) → refusal 7 ≡ fieldsOf (form (tokensFrom 0 n ks vs))
     unfolding all
     begin-more e =
         sym
@@ -327,7 +330,7 @@ module _ (ks vs : List ℕ) (n : ℕ) where
       unfolding all
       end-alone e = sym (ap fieldsOf (end-form ∙ one-behind ending all (all-length ∙ e)))
 
-      pub end-more : (n ≡ 1 → ⊥) → nothing ≡ fieldsOf (form (tokensFrom 0 n ks vs))
+      pub end-more : (n ≡ 1 → ⊥) → refusal 7 ≡ fieldsOf (form (tokensFrom 0 n ks vs))
       unfolding all
       end-more e =
           sym
@@ -353,7 +356,7 @@ module _ (ks vs : List ℕ) (n : ℕ) where
         unfolding all pick
         integer-names e = sym (ap fieldsOf (integer-form ∙ ap (λ b. pick b declaration noForm) (names-behind true e)))
 
-        pub integer-more : false ≡ isNameList (left n 1 ks vs) → nothing ≡ fieldsOf (form (tokensFrom 0 n ks vs))
+        pub integer-more : false ≡ isNameList (left n 1 ks vs) → refusal 7 ≡ fieldsOf (form (tokensFrom 0 n ks vs))
         unfolding all pick
         integer-more e = sym (ap fieldsOf (integer-form ∙ ap (λ b. pick b declaration noForm) (names-behind false e)))
 
@@ -363,3 +366,25 @@ module _ (ks vs : List ℕ) (n : ℕ) where
       other-form third =
           pick-no _ _ _ _ (at-front markBegin false first)
           (pick-no _ _ _ _ (at-front markEnd false second) (pick-no _ _ _ _ (at-front markInteger false third) refl))
+
+-- ---- any number of tokens and any arrays
+
+pub fits : (n room other : ℕ) → fit n room other ≡ true → (n ≤ mostCells) × (n ≤ room) × (n ≤ other)
+fits n room other e =
+    let one = both-yes (leb n mostCells) (pick (leb n room) (leb n other) false) e in
+    let two = both-yes (leb n room) (leb n other) (one .1) in
+    (leb-true n mostCells (one .0), leb-true n room (two .0), leb-true n other (two .1))
+
+module _ (n : ℕ) (ks vs : List ℕ) (ts : List Token) where
+  pub fit-told : fit n (length ks) (length vs) ≡ true → fieldsOf (form ts) ≡ toldOf n ks vs ts
+  unfolding toldOf pick
+  fit-told e = rw e refl
+
+  pub unfit-told : fit n (length ks) (length vs) ≡ false → unfit ≡ toldOf n ks vs ts
+  unfolding toldOf pick
+  unfit-told e = rw e refl
+
+  -- with room for the fields
+  pub form-fit : n ≤ mostCells → n ≤ length ks → n ≤ length vs → toldOf n ks vs ts ≡ fieldsOf (form ts)
+  unfolding toldOf pick
+  form-fit h g f = rw (le-leb n mostCells h, le-leb n (length ks) g, le-leb n (length vs) f) refl

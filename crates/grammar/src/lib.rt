@@ -9,7 +9,6 @@ use source::marks::MARK_BEGIN;
 use source::marks::MARK_COMMA;
 use source::marks::MARK_END;
 use source::marks::MARK_INTEGER;
-ghost use mathlib.Core.Bool.{true, false};
 ghost use mathlib.Core.Path.{_≡_};
 ghost use Prim.Native.Nat.{_≤_, _*_};
 ghost use lib.ListN.{length};
@@ -17,11 +16,12 @@ ghost use Rattle.source.specs.Limits.{mostCells};
 ghost use Rattle.source.specs.Grammar.{form, isNameList, labelledForm, labelsAt};
 ghost use Rattle.source.specs.Memory.{tokensFrom};
 ghost use Rattle.grammar_look.specs.Internal.{left};
-ghost use Rattle.grammar.specs.Answers.{fieldsOf, told, Few};
+ghost use Rattle.grammar.specs.Answers.{fieldsOf, told, fit, toldOf, Few};
 ghost use Rattle.grammar.specs.Internal.{LabelsOf};
 
 // The form of a statement. `Labels(c)`: c labels alone; they are the numbers that the tokens 0, 2 .. carry. `Instruction(c, m)`:
-// c labels and an instruction, whose m fields fill the front of the two arrays.
+// c labels and an instruction, whose m fields fill the front of the two arrays. `Nothing`: no such form. `Unfit`: the tokens are
+// more than a statement can have, or than an array has places.
 pub enum Form {
     Begin,
     Declaration,
@@ -29,6 +29,7 @@ pub enum Form {
     Labels(usize),
     Instruction(usize, usize),
     Nothing,
+    Unfit,
 }
 
 // Whether the tokens from place `at` on are a list of names parted by commas.
@@ -82,43 +83,26 @@ fn labelled(kinds: &[u8], values: &[u32], n: usize, fields: &mut [u8], carried: 
     Form::Nothing
 }
 
-// Whether n tokens are more than a statement can have, or than one of two arrays has room for.
-fn is_long(n: usize, room: usize, other: usize) -> bool
-    ensures long { λ r. ⌜ (r ≡ true → n ≤ mostCells → n ≤ room → n ≤ other → ⊥) ⌝ }
-    ensures short { λ r. ⌜ (r ≡ false → (n ≤ mostCells) × (n ≤ room) × (n ≤ other)) ⌝ }
+// Whether n tokens are no more than a statement can have, and than two arrays have places.
+fn is_fit(n: usize, room: usize, other: usize) -> bool
+    ensures { λ r. ⌜ r ≡ fit n room other ⌝ }
 {
     if MOST_CELLS < n {
-        return true;
+        return false;
     }
     if room < n {
-        return true;
+        return false;
     }
-    if other < n {
-        return true;
-    }
-    false
+    n <= other
 }
 
-// The form of the statement whose tokens are the first n of two arrays. A statement has no more tokens than the 256 cells that
-// it can hold, and no more fields than tokens.
-pub fn form_of(
-    kinds: &[u8],
-    values: &[u32],
-    n: usize,
-    fields: &mut [u8],
-    carried: &mut [u32],
-) -> Form
-    ensures read { λ r.
-        ⌜ (n ≤ mostCells → n ≤ length (now (fields .entry)) → n ≤ length (now (carried .entry))
-        → told (tokensFrom 0 n (now (kinds .entry)) (now (values .entry))) r (now (fields .exit)) (now (carried .exit))
-        ≡ fieldsOf (form (tokensFrom 0 n (now (kinds .entry)) (now (values .entry))))) ⌝ }
+// The form of the statement whose tokens are the first n of two arrays.
+fn fit_form(kinds: &[u8], values: &[u32], n: usize, fields: &mut [u8], carried: &mut [u32]) -> Form
+    requires { ⌜ (n ≤ mostCells) × (n ≤ length (now fields)) × (n ≤ length (now carried)) ⌝ }
+    ensures read { λ r. ⌜ told (tokensFrom 0 n (now (kinds .entry)) (now (values .entry))) r (now (fields .exit))
+        (now (carried .exit)) ≡ fieldsOf (form (tokensFrom 0 n (now (kinds .entry)) (now (values .entry)))) ⌝ }
     ensures few { λ r. ⌜ Few n r ⌝ }
-    ensures kept { λ _. ⌜ (length (now (fields .exit)) ≡ length (now (fields .entry)))
-        × (length (now (carried .exit)) ≡ length (now (carried .entry))) ⌝ }
 {
-    if is_long(n, fields.len(), carried.len()) {
-        return Form::Nothing;
-    }
     if mark_at(kinds, values, n, 0, MARK_BEGIN) {
         if n == 1 {
             return Form::Begin;
@@ -138,4 +122,26 @@ pub fn form_of(
         return Form::Nothing;
     }
     labelled(kinds, values, n, fields, carried)
+}
+
+// The same for any number of tokens and any arrays. A statement has no more tokens than the cells that it can hold, and no more
+// fields than tokens. Free is what the arrays hold behind the fields of an instruction, and all that they
+// hold where there is none.
+pub fn form_of(
+    kinds: &[u8],
+    values: &[u32],
+    n: usize,
+    fields: &mut [u8],
+    carried: &mut [u32],
+) -> Form
+    ensures read { λ r. ⌜ told (tokensFrom 0 n (now (kinds .entry)) (now (values .entry))) r (now (fields .exit)) (now (carried .exit))
+        ≡ toldOf n (now (fields .entry)) (now (carried .entry)) (tokensFrom 0 n (now (kinds .entry)) (now (values .entry))) ⌝ }
+    ensures few { λ r. ⌜ Few n r ⌝ }
+    ensures kept { λ _. ⌜ (length (now (fields .exit)) ≡ length (now (fields .entry)))
+        × (length (now (carried .exit)) ≡ length (now (carried .entry))) ⌝ }
+{
+    if is_fit(n, fields.len(), carried.len()) {
+        return fit_form(kinds, values, n, fields, carried);
+    }
+    Form::Unfit
 }

@@ -1,49 +1,36 @@
--- The labels of a program in memory, and what setting the labels of a statement does to them.
-use Prim.Native.Nat.{ℕ, _+_, _*_, _/_, _%_, _≤_, _<_}
+-- What setting the labels of a statement does to those of a program. Comments in quotes are document 01's words.
+use Prim.Native.Nat.{ℕ, _+_}
+use mathlib.Core.Bool.{Bool, false}
 use mathlib.Core.List.{List, _++_}
-use mathlib.Core.Path.{_≡_}
-use lib.ListN.{length, getD}
+use lib.Dec.{ltb, leb, eqb}
+use lib.ListN.{length}
 use Rattle.base.specs.Choice.{pick}
-use Rattle.base.specs.Places.{each}
-use Rattle.source.specs.Memory.{tokenOf, tokenCarried, tableRows}
-use Rattle.source.specs.Program.{Label, label, canSet, labelsSet}
+use Rattle.source.specs.Memory.{tableRows}
+use Rattle.source.specs.Program.{Label, canSet, labelsSet}
 use Rattle.labels.specs.declared.Set.{Set}
-use Rattle.labels.specs.declared.Set.the-variants.{Labels as Sets, Refused as Refuses}
+use Rattle.labels.specs.declared.Set.the-variants.{Labels as Sets, Refused as Refuses, Unfit as NotFit}
+use Rattle.labels.specs.Memory.{instructionNumbers, labelsOf}
 
--- a label stands in memory with the number of the instruction after it, which is less than this
-abbrev pub instructionNumbers : ℕ
-instructionNumbers = 2048
-
-abbrev pub labelIn : ℕ → Label
-labelIn e = label (e / instructionNumbers) (e % instructionNumbers)
-
-abbrev pub labelsOf : ℕ → List ℕ → List Label
-labelsOf n l = each (λ i. labelIn (getD l i 0)) 0 n
-
--- what every second token carries: the labels of a statement
-abbrev pub labelHere : List ℕ → List ℕ → ℕ → ℕ
-labelHere ks vs i = tokenCarried (tokenOf (getD ks (i * 2) 0) (getD vs (i * 2) 0))
-
-abbrev pub labelsAt : ℕ → List ℕ → List ℕ → List ℕ
-labelsAt n ks vs = each (labelHere ks vs) 0 n
-
--- the labels that are set after those of a statement, or that it is refused
+-- the labels that are set after those of a statement; document 01's number of the refusal; or that the table is not fit for them
 pub data Labels : Type 0 where
   labels : List Label → Labels
-  notSet : Labels
+  refusal : ℕ → Labels
+  unfit : Labels
 
+-- 9 "label 0 or over 9999, set twice, or never set"
 abbrev pub setIn : Set → List ℕ → Labels
 setIn (Sets n) l = labels (labelsOf n l)
-setIn Refuses l = notSet
+setIn Refuses l = refusal 9
+setIn NotFit l = unfit
 
+-- the labels ls set before instruction s, behind ms
 abbrev pub setAll : ℕ → List Label → List ℕ → Labels
-setAll s ms ls = pick (canSet s ms ls) (labels (ms ++ labelsSet s ls)) notSet
+setAll s ms ls = pick (canSet s ms ls) (labels (ms ++ labelsSet s ls)) (refusal 9)
 
-pub record Setting (before : List ℕ) (count s : ℕ) (ls : List ℕ) (r : Set) (after : List ℕ) : Type 0 where
-  pub told : setIn r after ≡ setAll s (labelsOf count before) ls
-  pub kept : length after ≡ length before
+-- whether a table has its rows, they are enough for so many labels, and an instruction's number has its place in them
+abbrev pub fit : ℕ → ℕ → ℕ → Bool
+fit size many s = pick (eqb size tableRows) (pick (leb many tableRows) (ltb s instructionNumbers) false) false
 
--- what setting labels does, where there is room for them
-abbrev pub SetsAll : List ℕ → ℕ → ℕ → List ℕ → Set → List ℕ → Type 0
-SetsAll before count s ls r after =
-    length before ≡ tableRows → count + length ls ≤ tableRows → s < instructionNumbers → Setting before count s ls r after
+-- what setting the labels ls before instruction s does, behind the n labels of a table
+unfoldable pub setOf : ℕ → List ℕ → ℕ → List ℕ → Labels
+setOf n l s ls = pick (fit (length l) (n + length ls) s) (setAll s (labelsOf n l) ls) unfit

@@ -22,6 +22,7 @@ use Rattle.order.specs.Order.{operand}
 use Rattle.order.specs.Object.{isStop}
 use Rattle.machine.specs.declared.Registers.{Registers}
 use Rattle.machine.specs.Machine.{machine, Effect, done, failed, advance, goTo, sentOne, endWith, operate, toAcc, wordBytes, send, effect}
+use Rattle.machine.specs.Frame.{Words}
 
 -- ---- the numbers of the faults
 
@@ -69,10 +70,6 @@ operation-gives Xor a x = gives (xorBits a x) (λ _ _. xor-closed a x)
 operation-gives Cmp a x = gives (comparison a x) (λ _ _. comparison-closed a x)
 
 -- ---- the cases
-
--- the words of a frame are words
-abbrev pub Words : List ℕ → Type 0
-Words ws = (i : ℕ) → getD ws i 0 < 4294967296
 
 pub data Case (r : Registers) (ws out : List ℕ) : Order → Effect → Type 0 where
   -- the accumulator becomes a word, if it and the words are words: operations, NEG and NOT; also a branch that is not taken

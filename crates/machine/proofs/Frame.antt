@@ -5,7 +5,7 @@ use mathlib.Core.Bool.{Bool, true, false}
 use mathlib.Core.List.{List}
 use native.Mathlib.Omega.{arith}
 use lib.Dec.{ltb}
-use lib.ListN.{length, getD, set}
+use lib.ListN.{length, getD}
 use Rattle.base.specs.Choice.{pick}
 use Rattle.word.specs.Word.{Outcome, value, fault}
 use Rattle.order.specs.declared.Order.{Order}
@@ -13,24 +13,12 @@ use Rattle.order.specs.declared.Order.the-variants.{Word, Number, Store, Neg, N
 use Rattle.order.specs.Good.{Good}
 use Rattle.machine.specs.declared.Registers.{Registers}
 use Rattle.machine.specs.Machine.{Machine, machine, done, failed, ran, operate, toAcc, send, effect, run}
-use Rattle.machine.proofs.Effects.{Words}
+use Rattle.machine.specs.Frame.{Ending, Bytes, Words, Operands, written}
 use Rattle.machine.proofs.Kept.{Keeps, kept}
-use Rattle.machine.proofs.Invariants.{Ending, Bytes, Operands, Lengths, Links, Inside, WithinRoom, GoodEnding, AllWords, AllBytes}
+use Rattle.machine.proofs.Invariants.{Lengths, Links, Inside, WithinRoom, GoodEnding, AllWords, AllBytes}
 use Rattle.machine.proofs.Invariants.{keeps-lengths, keeps-room, keeps-ending, keeps-words, keeps-bytes, keeps-links, keeps-inside}
 
 -- ---- one order
-
--- the words after an order: STR stores the accumulator in its word, and no other order writes a word
-abbrev pub written : Order → ℕ → List ℕ → List ℕ
-written (Word f w) a ws = ws
-written (Number f n) a ws = ws
-written (Store w) a ws = set ws w a
-written Neg a ws = ws
-written Not a ws = ws
-written (Jump i) a ws = ws
-written (Branch s i) a ws = ws
-written Send a ws = ws
-written Stop a ws = ws
 
 never : {P : Type 0} (n : ℕ) (m : Machine) → failed n ≡ done m → P
 never n m e = let z : _≡_ {A = ℕ} 0 1 = cc in absurd (omega arith)

@@ -1,38 +1,22 @@
 -- What each order keeps: the invariants of a run that proofs/Frame.antt states.
 use Prim.Native.Nat.{ℕ, zero, suc, _+_, _-_, _*_, _/_, _<_, _≤_}
 use mathlib.Core.Path.{_≡_, refl, sym, ap, _∙_}
-use mathlib.Core.Bool.{Bool, true, false}
+use mathlib.Core.Bool.{false}
 use mathlib.Core.List.{List, [], _∷_}
-use mathlib.Core.Logic.{_⊎_, inl, inr}
+use mathlib.Core.Logic.{inl, inr}
 use native.Mathlib.Omega.{arith}
-use borrow.Author.Tests.{ltb-true, ltb-false, eqb-false}
-use lib.Dec.{ltb}
 use lib.ListN.{length, getD, set, length-set, List·getD-eq-default}
 use lib.Seq.{sets, length-sets, getD-set-other}
-use Rattle.base.specs.Choice.{pick}
 use Rattle.base.proofs.Cases.{by-less}
 use Rattle.order.specs.declared.Order.{Order}
 use Rattle.order.specs.declared.Order.the-variants.{Store, Jump, Branch, Send, Stop}
-use Rattle.order.specs.Order.{operand}
-use Rattle.order.specs.Object.{operandRefusal, isStop}
-use Rattle.order.specs.Good.{Good}
+use Rattle.order.specs.Object.{isStop}
+use Rattle.order.specs.Good.{OperandFits, Good}
+use Rattle.order.proofs.OrderTests.{numbers-small, not-stop}
 use Rattle.machine.specs.Machine.{Machine, machine, wordBytes}
-use Rattle.machine.proofs.Effects.{computes, stores, jumps, branches, sends, stops, faults, Words}
+use Rattle.machine.specs.Frame.{Ending, Bytes, Operands, Words}
+use Rattle.machine.proofs.Effects.{computes, stores, jumps, branches, sends, stops, faults}
 use Rattle.machine.proofs.Kept.{Keeps}
-
--- ---- what is said of numbers, bytes and orders
-
--- 0 none, 1 to 4 that fault, 20 stopped
-abbrev pub Ending : ℕ → Type 0
-Ending n = (n ≤ 4) ⊎ (n ≡ 20)
-
--- bytes are bytes
-abbrev pub Bytes : List ℕ → Type 0
-Bytes l = (i : ℕ) → getD l i 0 < 256
-
--- the operands are words
-abbrev pub Operands : List Order → Type 0
-Operands os = (i : ℕ) → operand (getD os i Stop) < 4294967296
 
 -- ---- stores
 
@@ -57,38 +41,24 @@ word-bytes a h (suc (suc (suc (suc j)))) = omega arith
 
 -- ---- the orders of a good object
 
--- no refusal: of a word that is not below 2, of an address that is below N
-not-below : (t u : Bool) → _≡_ {A = ℕ} (pick t 23 (pick u 0 23)) 0 → t ≡ false
-unfolding pick
-not-below true u e = absurd (omega arith)
-not-below false u e = refl
-
-is-below : (t : Bool) → _≡_ {A = ℕ} (pick t 0 24) 0 → t ≡ true
-unfolding pick
-is-below true e = refl
-is-below false e = absurd (omega arith)
-
 module _ (v t : ℕ) (os : List Order) (good : Good v t os) where
-  operands-good : (i : ℕ) → operandRefusal (v + t + 2) (length os) (getD os i Stop) ≡ 0
-  operands-good i = by-less i (length os) (λ h. good .operands i h) (λ h. rw (List·getD-eq-default os Stop h))
+  -- what an order of the program carries; past the last order stands STOP
+  fits : (i : ℕ) (o : Order) → getD os i Stop ≡ o → OperandFits v t (length os) o
+  fits i o e =
+      by-less i (length os)
+      (λ h. rw e at (good .operands i h))
+      (λ h. rw (← sym (List·getD-eq-default os Stop h) ∙ e) tt)
 
   pub operands-small : Operands os
   operands-small i =
       by-less i (length os)
-      (λ h. let few = good .numbers i h in omega arith)
+      (λ h. let few = numbers-small v t os good i h in omega arith)
       (λ h. rw (List·getD-eq-default os Stop h) (omega arith))
-
-  -- STR never writes a link word
-  store-above : (i w : ℕ) → getD os i Stop ≡ Store w → 2 ≤ w
-  store-above i w e = ltb-false w 2 (not-below (ltb w 2) (ltb w (v + t + 2)) (rw e at (operands-good i)))
-
-  address-inside : (i a : ℕ) (o : Order) → getD os i Stop ≡ o → operandRefusal (v + t + 2) (length os) o ≡ pick (ltb a (length os)) 0 24 → a < length os
-  address-inside i a o e z = ltb-true a (length os) (is-below (ltb a (length os)) (sym z ∙ rw e at (operands-good i)))
 
   -- behind an order that is not STOP stands another
   behind-inside : (i : ℕ) (o : Order) → getD os i Stop ≡ o → isStop o ≡ false → i < length os → i + 1 < length os
   behind-inside i o e z h =
-      let other : i ≡ length os - 1 → ⊥ = eqb-false i (length os - 1) (sym (good .stops i h) ∙ ap isStop e ∙ z) in
+      let other : i ≡ length os - 1 → ⊥ = λ last. not-stop o z (sym e ∙ ap (λ k. getD os k Stop) last ∙ good .stop-last) in
       omega (arith, other)
 
 -- ---- what each order keeps of a machine
@@ -164,7 +134,7 @@ module _ (v t : ℕ) (os : List Order) (good : Good v t os) where
   pub keeps-links : (a b : ℕ) → Keeps os (Links a b)
   keeps-links a b r ws out _ _ i (computes o x s c) p = p
   keeps-links a b r ws out _ _ i (stores w) p =
-      let above = store-above v t os good (r .next) w i in
+      let above = fits v t os good (r .next) (Store w) i .0 in
       (getD-set-other ws w 0 (r .acc) 0 (λ z. omega arith) ∙ p .0, getD-set-other ws w 1 (r .acc) 0 (λ z. omega arith) ∙ p .1)
   keeps-links a b r ws out _ _ i (jumps x) p = p
   keeps-links a b r ws out _ _ i (branches s x) p = p
@@ -175,8 +145,8 @@ module _ (v t : ℕ) (os : List Order) (good : Good v t os) where
   pub keeps-inside : Keeps os (Inside os)
   keeps-inside r ws out _ _ i (computes o a s c) p = behind-inside v t os good (r .next) o i s p
   keeps-inside r ws out _ _ i (stores w) p = behind-inside v t os good (r .next) (Store w) i refl p
-  keeps-inside r ws out _ _ i (jumps a) p = address-inside v t os good (r .next) a (Jump a) i refl
-  keeps-inside r ws out _ _ i (branches s a) p = address-inside v t os good (r .next) a (Branch s a) i refl
+  keeps-inside r ws out _ _ i (jumps a) p = fits v t os good (r .next) (Jump a) i
+  keeps-inside r ws out _ _ i (branches s a) p = fits v t os good (r .next) (Branch s a) i
   keeps-inside r ws out _ _ i (sends room) p = behind-inside v t os good (r .next) Send i refl p
   keeps-inside r ws out _ _ i stops p = p
   keeps-inside r ws out _ _ i (faults o m low high) p = p

@@ -12,7 +12,7 @@ use Rattle.text.specs.Pieces.{digitsOf, fixed, digits, numeral}
 use Rattle.order.specs.declared.Operation.the-variants.{Load, Sub, Div, Cmp}
 use Rattle.order.specs.declared.Order.{Order}
 use Rattle.order.specs.declared.Order.the-variants.{Word, Number, Store, Jump, Branch, Send, Stop}
-use Rattle.order.specs.Order.{shapes}
+use Rattle.order.specs.Order.{table}
 use Rattle.order.specs.Object.{object, reading, text, recordsText}
 use Rattle.order.specs.Object.{withinLimits, headerAt, recordAmong, recordAt, linesAt}
 use Rattle.order.specs.Object.{firstStop, firstOperand, stopLast, exactly}
@@ -48,7 +48,7 @@ orders =
     ∷ []
 
 pub worked-reading : reading worked ≡ object 2 2 orders
-unfolding bytes pick shapes onFront fixed digits numeral withinLimits headerAt recordAmong recordAt linesAt firstStop firstOperand stopLast exactly reading
+unfolding bytes pick table onFront fixed digits numeral withinLimits headerAt recordAmong recordAt linesAt firstStop firstOperand stopLast exactly reading
 worked-reading = refl
 
 pub worked-text : text 2 2 orders ≡ worked

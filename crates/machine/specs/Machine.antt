@@ -115,7 +115,7 @@ abbrev pub onEffect : Effect → (ℕ → Run) → (Machine → Run) → Run
 onEffect (failed n) f d = f n
 onEffect (done m) f d = d m
 
--- "An ended state takes no step", and "a fault is met even with no budget left"
+-- "An ended state takes no step", and "A fault is met even with no budget left"
 unfoldable pub run : List Order → ℕ → Machine → Run
 run os zero m = pick (eqb (ending m) 0) (onEffect (nextEffect os m) (λ n. faulted n m) (λ after. ran 0 m)) (ran 0 m)
 run os (suc budget) m =

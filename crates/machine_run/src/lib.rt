@@ -5,7 +5,7 @@ use machine_effect::end_with;
 use machine_step::fault_ahead;
 use machine_step::step;
 ghost use mathlib.Core.Path.{_≡_};
-ghost use Rattle.order.specs.Order.{ordersOf};
+ghost use Rattle.order.specs.Memory.{ordersOf};
 ghost use Rattle.machine.specs.Machine.{machine, ran, run};
 
 // The steps of a run and what it leaves, beside the words and the output.

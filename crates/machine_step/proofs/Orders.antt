@@ -14,7 +14,7 @@ use Rattle.order.specs.declared.Operation.{Operation}
 use Rattle.order.specs.declared.Operation.the-variants.{Load, Add, Sub, Mlt, Div, Exp, Shl, Shr, And, Or, Xor, Cmp}
 use Rattle.order.specs.declared.Order.{Order}
 use Rattle.order.specs.declared.Order.the-variants.{Word, Number, Store, Neg, Not, Jump, Branch, Send, Stop}
-use Rattle.order.specs.Order.{shapes, orderOf, ordersOf}
+use Rattle.order.specs.Memory.{shapes, orderOf, ordersOf}
 use Rattle.order.proofs.Numbers.{ordersOf-at}
 use Rattle.machine.specs.declared.Registers.{Registers}
 use Rattle.machine.specs.Machine.{Machine, machine, done, failed, endWith, operate, toAcc, send, effect, nextEffect}

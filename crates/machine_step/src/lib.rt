@@ -22,7 +22,7 @@ ghost use lib.Dec.{ltb};
 ghost use lib.ListN.{length, getD};
 ghost use Rattle.base.specs.Choice.{pick};
 ghost use Rattle.word.specs.Answers.{outcome};
-ghost use Rattle.order.specs.Order.{orderOf, ordersOf};
+ghost use Rattle.order.specs.Memory.{orderOf, ordersOf};
 ghost use Rattle.machine.specs.Machine.{machine, nextEffect};
 ghost use Rattle.machine.specs.Internal.{stepped, faultOf};
 ghost use Rattle.machine_step.specs.Internal.{faultIn, carried};

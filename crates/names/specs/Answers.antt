@@ -1,38 +1,37 @@
--- The names of a program in memory, and what a declaration does to them.
-use Prim.Native.Nat.{ℕ, _+_, _*_, _%_, _≤_}
+-- What a declaration does to the names of a program. Comments in quotes are document 01's words.
+use Prim.Native.Nat.{ℕ, _+_, _*_}
+use mathlib.Core.Bool.{Bool, false}
 use mathlib.Core.List.{List, _++_}
-use mathlib.Core.Path.{_≡_}
-use lib.ListN.{length, getD, take, drop}
+use lib.Dec.{leb, eqb}
+use lib.ListN.{length}
 use Rattle.base.specs.Choice.{pick}
-use Rattle.base.specs.Places.{each}
+use Rattle.source.specs.Limits.{mostCells}
 use Rattle.source.specs.Memory.{tableRows}
 use Rattle.source.specs.Program.{canDeclare}
 use Rattle.names.specs.declared.Declared.{Declared}
-use Rattle.names.specs.declared.Declared.the-variants.{Names as Declares, Refused}
+use Rattle.names.specs.declared.Declared.the-variants.{Names as Declares, Refused, Unfit}
+use Rattle.names.specs.Memory.{namesOf}
 
-abbrev pub nameAt : List ℕ → ℕ → List ℕ
-nameAt names i = take (getD names (i * 256 + 255) 0 % 256) (drop (i * 256) names)
-
-abbrev pub namesOf : ℕ → List ℕ → List (List ℕ)
-namesOf v names = each (nameAt names) 0 v
-
--- the names after a declaration, or that it is refused
+-- the names after a declaration; document 01's number of the refusal; or that the table is not fit for them
 pub data Names : Type 0 where
   names : List (List ℕ) → Names
-  twice : Names
+  refusal : ℕ → Names
+  unfit : Names
 
+-- 8 "name unknown, declared twice, or SEND misused"
 abbrev pub declaredIn : Declared → List ℕ → Names
 declaredIn (Declares v) l = names (namesOf v l)
-declaredIn Refused l = twice
+declaredIn Refused l = refusal 8
+declaredIn Unfit l = unfit
 
+-- the names ns declared behind ms
 abbrev pub declaredAll : List (List ℕ) → List (List ℕ) → Names
-declaredAll ms ns = pick (canDeclare ms ns) (names (ms ++ ns)) twice
+declaredAll ms ns = pick (canDeclare ms ns) (names (ms ++ ns)) (refusal 8)
 
--- what a declaration of the names ns does, where there is room for them
-pub record Declaring (before : List ℕ) (v : ℕ) (ns : List (List ℕ)) (r : Declared) (after : List ℕ) : Type 0 where
-  pub told : declaredIn r after ≡ declaredAll (namesOf v before) ns
-  pub kept : length after ≡ length before
+-- whether a table of so many bytes has its rows, and they are enough for so many names
+abbrev pub fit : ℕ → ℕ → Bool
+fit size many = pick (eqb size (tableRows * mostCells)) (leb many tableRows) false
 
-abbrev pub DeclaresAll : List ℕ → ℕ → List (List ℕ) → Declared → List ℕ → Type 0
-DeclaresAll before v ns r after =
-    length before ≡ tableRows * 256 → v + length ns ≤ tableRows → Declaring before v ns r after
+-- what a declaration of the names ns does behind the v names of a table
+unfoldable pub declaredOf : ℕ → List ℕ → List (List ℕ) → Names
+declaredOf v l ns = pick (fit (length l) (v + length ns)) (declaredAll (namesOf v l) ns) unfit

@@ -1,19 +1,22 @@
 // The names of the variables in memory: name i has the 256 bytes from 256 i on, the last of them its length.
 use base::part;
+use source::MOST_CELLS;
 use source::TABLE_ROWS;
 ghost use mathlib.Core.Path.{_≡_};
-ghost use Prim.Native.Nat.{_≤_};
+ghost use Prim.Native.Nat.{_+_, min};
 ghost use mathlib.Core.List.{[], _∷_, map};
 ghost use lib.ListN.{length};
 ghost use Rattle.source.specs.Program.{sameName, wordFrom, wordOf, lookedUp, namesIn};
 ghost use Rattle.source.specs.Memory.{tokenOf, lexemeOf, tokensFrom, lexemesFrom};
-ghost use Rattle.names.specs.Answers.{namesOf, DeclaresAll};
-ghost use Rattle.names.specs.Internal.{stored};
+ghost use Rattle.names.specs.Memory.{namesOf};
+ghost use Rattle.names.specs.Answers.{declaredIn, fit, declaredOf};
+ghost use Rattle.names.specs.Internal.{stored, DeclaresAll, oneIfName, namesAmong};
 
-// How many names there are now, or that one of them cannot be declared.
+// How many names there are now; that one of them cannot be declared; or that the table is not fit for them.
 pub enum Declared {
     Names(u8),
     Refused,
+    Unfit,
 }
 
 // Whether two names are the same.
@@ -70,7 +73,8 @@ fn seen(cells: &[u8], kind: u8, value: u32, names: &[u8], v: u8) -> u32
     word_of(names, v, name)
 }
 
-// Looks the names of n tokens up: `words` becomes what they carry then.
+// Looks the names of n tokens up: `words` becomes what they carry then, of as many tokens as it has places. Free is what it
+// holds behind them.
 pub fn look_up(
     cells: &[u8],
     kinds: &[u8],
@@ -80,13 +84,15 @@ pub fn look_up(
     v: u8,
     words: &mut [u32],
 )
-    ensures seen { λ _. ⌜ (n ≤ length (now (words .entry))
-        → tokensFrom 0 n (now (kinds .entry)) (now (words .exit))
-        ≡ map (lookedUp (namesOf v (now (names .entry)))) (lexemesFrom 0 n (now (cells .entry)) (now (kinds .entry)) (now (values .entry)))) ⌝ }
+    ensures seen { λ _. ⌜ tokensFrom 0 (min n (length (now (words .entry)))) (now (kinds .entry)) (now (words .exit))
+        ≡ map (lookedUp (namesOf v (now (names .entry)))) (lexemesFrom 0 (min n (length (now (words .entry)))) (now (cells .entry)) (now (kinds .entry)) (now (values .entry))) ⌝ }
     ensures kept { λ _. ⌜ length (now (words .exit)) ≡ length (now (words .entry)) ⌝ }
 {
     let mut i = 0;
     while i < n {
+        if words.len() <= i {
+            return;
+        }
         let kind = base::byte_at(kinds, i);
         let value = base::word_at(values, i);
         base::put_word(words, i, seen(cells, kind, value, names, v));
@@ -119,14 +125,14 @@ fn declare_one(cells: &[u8], kind: u8, value: u32, names: &mut [u8], v: u8) -> D
         return Declared::Refused;
     }
     if TABLE_ROWS <= v as u32 {
-        return Declared::Refused;
+        return Declared::Unfit;
     }
     store(names, v, name);
     Declared::Names(v + 1)
 }
 
-// Declares the names among n tokens behind v others.
-pub fn declare(
+// Declares the names among n tokens behind v others, where there is room for them.
+fn declare_all(
     cells: &[u8],
     kinds: &[u8],
     values: &[u32],
@@ -141,11 +147,70 @@ pub fn declare(
     while i < n {
         let kind = base::byte_at(kinds, i);
         let value = base::word_at(values, i);
-        let Declared::Names(c) = declare_one(cells, kind, value, names, count) else {
-            return Declared::Refused;
-        };
-        count = c;
-        i += 1;
+        match declare_one(cells, kind, value, names, count) {
+            Declared::Names(c) => {
+                count = c;
+                i += 1;
+            }
+            Declared::Refused => return Declared::Refused,
+            Declared::Unfit => return Declared::Unfit,
+        }
     }
     Declared::Names(count)
+}
+
+// 1 where a token is a name, else 0.
+fn one_if_name(kind: u8) -> usize
+    ensures { λ r. ⌜ r ≡ oneIfName kind ⌝ }
+{
+    if kind != 0 {
+        return 0;
+    }
+    1
+}
+
+// How many of n tokens are names.
+fn count_names(kinds: &[u8], n: usize) -> usize
+    ensures { λ r. ⌜ r ≡ namesAmong 0 n (now (kinds .entry)) ⌝ }
+{
+    let mut i = 0;
+    let mut count = 0;
+    while i < n {
+        count += one_if_name(base::byte_at(kinds, i));
+        i += 1;
+    }
+    count
+}
+
+// Whether a table of so many bytes has its rows, and they are enough for so many names behind v others.
+fn is_fit(size: usize, v: u8, many: usize) -> bool
+    ensures { λ r. ⌜ r ≡ fit size (v + many) ⌝ }
+{
+    if size != TABLE_ROWS as usize * MOST_CELLS {
+        return false;
+    }
+    if (TABLE_ROWS as usize) < many {
+        return false;
+    }
+    v as usize + many <= TABLE_ROWS as usize
+}
+
+// Declares the names among n tokens behind the v names of a table. Free is what the table holds behind the names that there are
+// then, and all that it holds where they are not declared.
+pub fn declare(
+    cells: &[u8],
+    kinds: &[u8],
+    values: &[u32],
+    n: usize,
+    names: &mut [u8],
+    v: u8,
+) -> Declared
+    ensures told { λ r. ⌜ declaredIn r (now (names .exit))
+        ≡ declaredOf v (now (names .entry)) (namesIn (lexemesFrom 0 n (now (cells .entry)) (now (kinds .entry)) (now (values .entry)))) ⌝ }
+    ensures kept { λ _. ⌜ length (now (names .exit)) ≡ length (now (names .entry)) ⌝ }
+{
+    if is_fit(names.len(), v, count_names(kinds, n)) {
+        return declare_all(cells, kinds, values, n, names, v);
+    }
+    Declared::Unfit
 }

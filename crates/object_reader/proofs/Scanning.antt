@@ -16,7 +16,8 @@ use Rattle.base.proofs.Cases.{by-test}
 use Rattle.base.proofs.Lists.{sets-more}
 use Rattle.order.specs.declared.Order.{Order}
 use Rattle.order.specs.declared.Order.the-variants.{Word, Number, Store, Neg, Not, Jump, Branch, Send, Stop}
-use Rattle.order.specs.Order.{number, operand}
+use Rattle.order.specs.Order.{operand}
+use Rattle.order.specs.Memory.{number}
 use Rattle.order.specs.Object.{withinLimits, recordAt, Lines, linesAt, Reading, refused}
 use Rattle.order.specs.Object.{operandRefusal, isStop, firstOperand, firstStop}
 use Rattle.object_reader.specs.declared.Scan.{Scan}

@@ -8,7 +8,7 @@ use Rattle.base.specs.Text.{bytes}
 use Rattle.text.specs.Pieces.{decimal}
 use Rattle.text.specs.Internal.{Placed, putByte, putAll}
 use Rattle.text.proofs.Writing.{putAll-append}
-use Rattle.order.specs.Order.{orderOf, ordersFrom}
+use Rattle.order.specs.Memory.{orderOf, ordersFrom}
 use Rattle.order.specs.Object.{recordText, recordsText, headerText, text}
 use Rattle.order.proofs.Numbers.{orders-length, orders-more, orders-over}
 

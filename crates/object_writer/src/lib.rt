@@ -10,7 +10,7 @@ ghost use Prim.Native.Nat.{_≤_};
 ghost use lib.ListN.{length};
 ghost use Rattle.text.specs.Buffer.{filledWith};
 ghost use Rattle.text.specs.Internal.{placed, putAll};
-ghost use Rattle.order.specs.Order.{ordersFrom};
+ghost use Rattle.order.specs.Memory.{ordersFrom};
 ghost use Rattle.order.specs.Object.{recordsText, headerText, text};
 ghost use Rattle.object_writer.specs.Answers.{written, replyFor};
 

@@ -5,16 +5,18 @@ use mathlib.Core.List.{List, [], _++_, append-nil}
 use native.Mathlib.Omega.{arith}
 use borrow.Author.Tests.{ltb-false, eqb-true}
 use lib.Dec.{ltb, eqb}
-use lib.ListN.{length, drop-of-length-le}
+use lib.ListN.{length, getD, drop-of-length-le}
 use Rattle.base.specs.Front.{onFront}
 use Rattle.base.proofs.Cases.{chosen-first, chosen-second}
 use Rattle.base.proofs.Fronts.{by-front}
 use Rattle.order.specs.declared.Order.{Order}
+use Rattle.order.specs.declared.Order.the-variants.{Stop}
 use Rattle.order.specs.Object.{Header, Lines, object, headerText, recordsText, text, headerAt, linesAt}
 use Rattle.order.specs.Object.{firstStop, stopLast, exactly, reading, linesOf}
 use Rattle.order.specs.Good.{Good}
 use Rattle.order.proofs.HeaderText.{Within, again-header}
 use Rattle.order.proofs.RecordLines.{Read, again-lines}
+use Rattle.order.proofs.OrderTests.{passed-fits}
 use Rattle.order.proofs.ObjectChecks.{not-object, operands-good, last-stops}
 
 pub record Accepted (l : List ℕ) (v t : ℕ) (os : List Order) : Type 0 where
@@ -38,6 +40,7 @@ checked h ls l v t os w r e =
     let operands = operands-good (h .variables + h .temporaries + 2) (h .orders) 0 v t (ls .orders) os _ (over .1) in
     let stops = chosen-first (eqb (firstStop 0 (ls .orders)) (length (ls .orders) - 1)) _ _ (object v t os) not-object (operands .1) in
     let all : length (ls .orders) ≡ h .orders = omega (arith, ltb-false (length (ls .orders)) (h .orders) (enough .0)) in
+    let ends = last-stops (ls .orders) (omega arith) (eqb-true (firstStop 0 (ls .orders)) (length (ls .orders) - 1) (stops .0)) in
     record {
       all-lines = all;
       no-more = drop-of-length-le (ls .rest) {i = 0} (ltb-false 0 (length (ls .rest)) (over .0));
@@ -46,9 +49,10 @@ checked h ls l v t os w r e =
         temporaries = w .temporaries;
         some-orders = omega arith;
         few-orders = omega arith;
-        numbers = r .numbers;
-        operands = λ k below. rw all (operands .0 k below);
-        stops = last-stops (ls .orders) (omega arith) (eqb-true (firstStop 0 (ls .orders)) (length (ls .orders) - 1) (stops .0));
+        operands = λ k below. passed-fits (h .variables) (h .temporaries) (length (ls .orders)) (getD (ls .orders) k Stop)
+            (r .numbers k below) (rw all (operands .0 k below));
+        stop-last = ends .0;
+        no-stop-earlier = ends .1;
       };
       same = stops .1;
     }

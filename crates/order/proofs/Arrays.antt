@@ -9,7 +9,8 @@ use lib.Seq.{sets}
 use Rattle.base.proofs.Lists.{getD-sets}
 use Rattle.order.specs.declared.Order.{Order}
 use Rattle.order.specs.declared.Order.the-variants.{Stop}
-use Rattle.order.specs.Order.{number, operand, orderOf, ordersFrom}
+use Rattle.order.specs.Order.{operand}
+use Rattle.order.specs.Memory.{number, orderOf, ordersFrom}
 use Rattle.order.proofs.Numbers.{order-again}
 
 -- an array holds what f gives of each order, from place k on

@@ -2,6 +2,7 @@ pub mod Numbers
 pub mod Records
 pub mod HeaderText
 pub mod RecordLines
+pub mod OrderTests
 pub mod ObjectChecks
 pub mod Accepted
 pub mod RoundTrip

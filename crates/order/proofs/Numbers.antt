@@ -3,6 +3,8 @@ use Prim.Native.Nat.{ℕ, zero, suc, _+_, _-_, _<_, _≤_}
 use mathlib.Core.Path.{_≡_, refl, sym, ap, ap₂, _∙_}
 use mathlib.Core.List.{List, [], _∷_, map}
 use native.Mathlib.Omega.{arith}
+use borrow.Author.Tests.{ne-eqb}
+use lib.Dec.{eqb}
 use lib.ListN.{length, getD, List·getD-eq-default}
 use Rattle.base.specs.Places.{each}
 use Rattle.base.proofs.Cases.{by-less}
@@ -13,7 +15,9 @@ use Rattle.order.specs.declared.Operation.{Operation}
 use Rattle.order.specs.declared.Operation.the-variants.{Load, Add, Sub, Mlt, Div, Exp, Shl, Shr, And, Or, Xor, Cmp}
 use Rattle.order.specs.declared.Order.{Order}
 use Rattle.order.specs.declared.Order.the-variants.{Word, Number, Store, Neg, Not, Jump, Branch, Send, Stop}
-use Rattle.order.specs.Order.{operand, operationNumber, branchNumber, number, shapes, orderOf, ordersOf, ordersFrom}
+use Rattle.order.specs.Order.{operand}
+use Rattle.order.specs.Object.{isStop}
+use Rattle.order.specs.Memory.{operationNumber, branchNumber, number, shapes, orderOf, ordersOf, ordersFrom}
 
 -- ---- one order
 
@@ -65,6 +69,23 @@ number-below o =
 pub no-order : (k v : ℕ) → 36 ≤ k → Stop ≡ orderOf k v
 unfolding shapes orderOf
 no-order k v h = ap (λ f. f v) (sym (List·getD-eq-default shapes (λ v. Stop) {n = k} h))
+
+-- STOP alone has the number 0
+pub stop-number : (o : Order) → eqb (number o) 0 ≡ isStop o
+stop-number (Word f w) = ne-eqb (12 + operationNumber f) 0 (λ e. omega (arith, e))
+stop-number (Number f n) = ne-eqb (24 + operationNumber f) 0 (λ e. omega (arith, e))
+stop-number (Store w) = refl
+stop-number Neg = refl
+stop-number Not = refl
+stop-number (Jump a) = refl
+stop-number (Branch Equal a) = refl
+stop-number (Branch Unequal a) = refl
+stop-number (Branch Less a) = refl
+stop-number (Branch AtMost a) = refl
+stop-number (Branch Greater a) = refl
+stop-number (Branch AtLeast a) = refl
+stop-number Send = refl
+stop-number Stop = refl
 
 -- ---- the orders of two arrays
 

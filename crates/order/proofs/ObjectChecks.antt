@@ -1,19 +1,20 @@
 -- The checks 22 to 25 pass exactly where every operand is in its range and the last order, and no other, is STOP.
 use Prim.Native.Nat.{ℕ, zero, suc, _+_, _-_, _<_, _≤_}
-use mathlib.Core.Path.{_≡_, refl, sym, _∙_}
+use mathlib.Core.Path.{_≡_, refl, ap, _∙_}
 use mathlib.Core.Bool.{true, false}
 use mathlib.Core.List.{List, [], _∷_}
 use native.Mathlib.Omega.{arith}
-use borrow.Author.Tests.{le-ltb, eq-eqb, ne-eqb, eqb-true}
+use borrow.Author.Tests.{le-ltb, eq-eqb, eqb-true}
 use lib.Dec.{eqb}
 use lib.ListN.{length, getD}
 use Rattle.base.specs.Choice.{pick}
-use Rattle.base.proofs.Cases.{by-test, by-equal, chosen-first}
+use Rattle.base.proofs.Cases.{by-test, chosen-first}
 use Rattle.base.proofs.Lists.{each-cons}
 use Rattle.order.specs.declared.Order.{Order}
 use Rattle.order.specs.declared.Order.the-variants.{Stop}
 use Rattle.order.specs.Object.{Reading, object, refused, operandRefusal, isStop, firstStop, firstOperand, stopLast, exactly}
 use Rattle.order.specs.Good.{Good}
+use Rattle.order.proofs.OrderTests.{fits-passes, stop-told, other-told, not-stop}
 
 pub not-object : {n p v t : ℕ} {os : List Order} → refused n p ≡ object v t os → ⊥
 not-object e = let z : _≡_ {A = ℕ} 0 1 = cc in omega arith
@@ -73,21 +74,21 @@ stop-first k (suc p) (o ∷ os) l e =
 
 -- the last order is STOP, and no other
 module _ (os : List Order) (some : 1 ≤ length os) where
-  stops-last : ((k : ℕ) → k < length os → isStop (getD os k Stop) ≡ eqb k (length os - 1)) → firstStop 0 os ≡ length os - 1
-  stops-last stops =
+  stops-last : getD os (length os - 1) Stop ≡ Stop → ((k : ℕ) → k + 1 < length os → getD os k Stop ≡ Stop → ⊥)
+      → firstStop 0 os ≡ length os - 1
+  stops-last last none-earlier =
       first-stop 0 (length os - 1) os (omega arith)
       (record {
-        here = stops (length os - 1) (omega arith) ∙ eq-eqb (length os - 1) (length os - 1) refl;
-        before = λ i h. stops i (omega arith) ∙ ne-eqb i (length os - 1) (λ e. omega arith);
+        here = ap isStop last;
+        before = λ i h. other-told (getD os i Stop) (none-earlier i (omega arith));
       })
       ∙ omega arith
 
-  pub last-stops : firstStop 0 os ≡ length os - 1 → (k : ℕ) → k < length os → isStop (getD os k Stop) ≡ eqb k (length os - 1)
-  last-stops e k h =
+  pub last-stops : firstStop 0 os ≡ length os - 1
+      → (getD os (length os - 1) Stop ≡ Stop) × ((k : ℕ) → k + 1 < length os → getD os k Stop ≡ Stop → ⊥)
+  last-stops e =
       let f = stop-first 0 (length os - 1) os (omega arith) (e ∙ omega arith) in
-      by-equal k (length os - 1)
-      (λ y. rw y (f .here ∙ sym (eq-eqb (length os - 1) (length os - 1) refl)))
-      (λ n. f .before k (omega arith) ∙ sym (ne-eqb k (length os - 1) n))
+      (stop-told (getD os (length os - 1) Stop) (f .here), λ k h. not-stop (getD os k Stop) (f .before k (omega arith)))
 
 -- the lines of a good object pass every check
 pub all-pass : (v t : ℕ) (os : List Order) → Good v t os
@@ -95,5 +96,6 @@ pub all-pass : (v t : ℕ) (os : List Order) → Good v t os
 unfolding exactly stopLast pick
 all-pass v t os g =
     rw (le-ltb (length os) (length os) (omega arith))
-    (operands-pass (v + t + 2) (length os) 0 os (stopLast v t os) (g .operands)
-    ∙ rw (eq-eqb (firstStop 0 os) (length os - 1) (stops-last os (g .some-orders) (g .stops))))
+    (operands-pass (v + t + 2) (length os) 0 os (stopLast v t os)
+    (λ i h. fits-passes v t (length os) (getD os i Stop) (g .operands i h))
+    ∙ rw (eq-eqb (firstStop 0 os) (length os - 1) (stops-last os (g .some-orders) (g .stop-last) (g .no-stop-earlier))))

@@ -16,53 +16,62 @@ use Rattle.text.proofs.Fronts.{front-fixed}
 use Rattle.text.proofs.Decimal.{numeral-decimal, decimal-numeral}
 use Rattle.order.specs.declared.Order.{Order}
 use Rattle.order.specs.declared.Order.the-variants.{Stop}
-use Rattle.order.specs.Order.{operand, number, shapes, orderOf}
+use Rattle.order.specs.Order.{operand, table}
+use Rattle.order.specs.Memory.{number, shapes, orderOf}
 use Rattle.order.specs.Object.{heading, recordText, recordAmong, recordAt}
 use Rattle.order.proofs.Numbers.{order-again}
 
--- ---- the table of shapes
+-- ---- the table
 
 -- an order's heading says nothing of its operand
 same-headings : (v : ℕ) → map (λ s. heading (s v)) shapes ≡ map (λ s. heading (s 0)) shapes
 unfolding shapes
 same-headings v = refl
 
+same-in-table : (v : ℕ) → map (λ s. heading (s v)) table ≡ map (λ s. heading (s 0)) table
+unfolding table
+same-in-table v = refl
+
 -- what is read behind the heading of a shape
 orderAt : (ℕ → Order) → List ℕ → Front Order
 orderAt s l = onFront (numeral 10 l) (λ v l₁. pick (eqb (operand (s v)) v) (found (s v) l₁) missing) missing
 
--- no other heading fits where a heading stands, whatever text is behind it
-headings-told : (l : List ℕ) → map (λ s. recordAt (heading (s 0) ++ l)) shapes ≡ map (λ s. orderAt s l) shapes
-unfolding shapes bytes recordAt recordAmong fixed pick onFront orderAt
+-- no other heading fits where a heading stands, whatever text is behind it: in the table, and in the order of the numbers
+headings-told : (l : List ℕ) → map (λ s. recordAmong table (heading (s 0) ++ l)) shapes ≡ map (λ s. orderAt s l) shapes
+unfolding shapes table bytes recordAmong fixed pick onFront orderAt
 headings-told l = refl
 
--- both at each number of the table
+numbered-told : (l : List ℕ) → map (λ s. recordAmong shapes (heading (s 0) ++ l)) shapes ≡ map (λ s. orderAt s l) shapes
+unfolding shapes bytes recordAmong fixed pick onFront orderAt
+numbered-told l = refl
+
+-- both at each number
 pub heading-at : (k v : ℕ) → heading (orderOf k v) ≡ heading (orderOf k 0)
 unfolding orderOf
 heading-at k v = map-at (λ s. heading (s v)) (λ s. heading (s 0)) shapes (λ v. Stop) (same-headings v) refl k
 
-record-at : (k : ℕ) (l : List ℕ) → recordAt (heading (orderOf k 0) ++ l) ≡ orderAt (orderOf k) l
-unfolding orderOf shapes
-record-at k l =
-    map-at (λ s. recordAt (heading (s 0) ++ l)) (λ s. orderAt s l) shapes (λ v. Stop) (headings-told l)
-    (ap (λ m. getD m 0 missing) (headings-told l)) k
-
--- ---- the record of an order
+-- ---- the record of an order, read by the shapes of any table that keeps to both rules
 
 -- the text field by field
 parts : (o : Order) (rest : List ℕ) → recordText o ++ rest ≡ heading o ++ (decimal (operand o) ++ 10 ∷ rest)
 parts o rest =
     append-assoc (heading o ++ decimal (operand o)) (10 ∷ []) rest ∙ append-assoc (heading o) (decimal (operand o)) (10 ∷ rest)
 
-pub record-again : (o : Order) (rest : List ℕ) → operand o ≤ 2147483647 → recordAt (recordText o ++ rest) ≡ found o rest
-unfolding orderAt onFront pick
-record-again o rest small =
-    ap recordAt (parts o rest)
-    ∙ ap (λ h. recordAt (h ++ (decimal (operand o) ++ 10 ∷ rest))) (ap heading (sym (order-again o)) ∙ heading-at (number o) (operand o))
-    ∙ record-at (number o) (decimal (operand o) ++ 10 ∷ rest)
-    ∙ rw (numeral-decimal 10 (operand o) rest small (omega arith), order-again o, eq-eqb (operand o) (operand o) refl)
+module _ (ss : List (ℕ → Order)) (told : (l : List ℕ) → map (λ s. recordAmong ss (heading (s 0) ++ l)) shapes ≡ map (λ s. orderAt s l) shapes) where
+  record-at : (k : ℕ) (l : List ℕ) → recordAmong ss (heading (orderOf k 0) ++ l) ≡ orderAt (orderOf k) l
+  unfolding orderOf shapes
+  record-at k l =
+      map-at (λ s. recordAmong ss (heading (s 0) ++ l)) (λ s. orderAt s l) shapes (λ v. Stop) (told l)
+      (ap (λ m. getD m 0 missing) (told l)) k
 
--- a record read by the shapes of any table that keeps to the first rule
+  among-again : (o : Order) (rest : List ℕ) → operand o ≤ 2147483647 → recordAmong ss (recordText o ++ rest) ≡ found o rest
+  unfolding orderAt onFront pick
+  among-again o rest small =
+      ap (recordAmong ss) (parts o rest)
+      ∙ ap (λ h. recordAmong ss (h ++ (decimal (operand o) ++ 10 ∷ rest))) (ap heading (sym (order-again o)) ∙ heading-at (number o) (operand o))
+      ∙ record-at (number o) (decimal (operand o) ++ 10 ∷ rest)
+      ∙ rw (numeral-decimal 10 (operand o) rest small (omega arith), order-again o, eq-eqb (operand o) (operand o) refl)
+
 among : (ss : List (ℕ → Order)) → ((v : ℕ) → map (λ s. heading (s v)) ss ≡ map (λ s. heading (s 0)) ss) → (o : Order) (l rest : List ℕ)
     → recordAmong ss l ≡ found o rest → (l ≡ recordText o ++ rest) × (operand o ≤ 2147483647)
 unfolding recordAmong onFront
@@ -79,6 +88,25 @@ among (s ∷ ss) same o l rest e =
     (cc (parts o rest), rw (← order-is) (omega arith))))
     (λ f. among ss (λ v. let all = same v in cc) o l rest (rw f at e))
 
+-- ---- the record of an order
+
+pub record-again : (o : Order) (rest : List ℕ) → operand o ≤ 2147483647 → recordAt (recordText o ++ rest) ≡ found o rest
+unfolding recordAt
+record-again = among-again table headings-told
+
 pub again-record : (o : Order) (l rest : List ℕ) → recordAt l ≡ found o rest → (l ≡ recordText o ++ rest) × (operand o ≤ 2147483647)
 unfolding recordAt
-again-record = among shapes same-headings
+again-record = among table same-in-table
+
+-- the table read in the order of the numbers gives the same
+by-numbers : (l : List ℕ) (x y : Front Order) → recordAmong shapes l ≡ x → recordAt l ≡ y → x ≡ y
+by-numbers l missing missing e f = refl
+by-numbers l (found o rest) y e f =
+    let read = among shapes same-headings o l rest e in
+    sym (record-again o rest (read .1)) ∙ ap recordAt (sym (read .0)) ∙ f
+by-numbers l missing (found o rest) e f =
+    let read = again-record o l rest f in
+    sym e ∙ ap (recordAmong shapes) (read .0) ∙ among-again shapes numbered-told o rest (read .1)
+
+pub numbers-read : (l : List ℕ) → recordAmong shapes l ≡ recordAt l
+numbers-read l = by-numbers l (recordAmong shapes l) (recordAt l) refl refl

@@ -10,12 +10,13 @@ use Rattle.order.specs.Object.{object, recordsText, text, reading, lines
 use Rattle.order.specs.Good.{Good}
 use Rattle.order.proofs.HeaderText.{Within, header-again}
 use Rattle.order.proofs.RecordLines.{lines-again}
+use Rattle.order.proofs.OrderTests.{numbers-small}
 use Rattle.order.proofs.ObjectChecks.{all-pass}
 use Rattle.order.proofs.Accepted.{accepted}
 
 pub read-text : (v t : ℕ) (os : List Order) → Good v t os → reading (text v t os) ≡ object v t os
 unfolding reading text onFront
-read-text v t os g = rw (header-again v t (length os) (recordsText os) within, lines-again os (g .numbers)) (all-pass v t os g)
+read-text v t os g = rw (header-again v t (length os) (recordsText os) within, lines-again os (numbers-small v t os g)) (all-pass v t os g)
   where
     within : Within v t (length os)
     within = record { variables = g .variables; temporaries = g .temporaries; some-orders = g .some-orders; few-orders = g .few-orders }

@@ -1,4 +1,5 @@
 pub mod Limits
 pub mod Order
+pub mod Memory
 pub mod Object
 pub mod Good

@@ -12,7 +12,7 @@ use Rattle.text.specs.Pieces.{decimal, Front, fixed, numeral}
 use Rattle.order.specs.declared.Order.{Order}
 use Rattle.order.specs.declared.Order.the-variants.{Word, Number, Store, Neg, Not, Jump, Branch, Send, Stop}
 use Rattle.order.specs.Limits.{mostVariables, mostTemporaries, mostOrders}
-use Rattle.order.specs.Order.{name, kind, operand, shapes}
+use Rattle.order.specs.Order.{name, kind, operand, table}
 
 -- ---- the text of an object
 
@@ -65,8 +65,8 @@ headerAt l =
 
 -- ---- the records
 
--- a record of one of the shapes, the first that fits. "A line whose order does not take its kind is not good"; nor is one
--- of kind `-` whose number is not 0, the operand of its order
+-- a record of one of the table's lines, the first that fits. "A line whose order does not take its kind is not good"; nor is
+-- one of kind `-` whose number is not 0, the operand of its order
 unfoldable pub recordAmong : List (ℕ → Order) → List ℕ → Front Order
 recordAmong [] l = missing
 recordAmong (shape ∷ more) l =
@@ -76,7 +76,7 @@ recordAmong (shape ∷ more) l =
     (recordAmong more l)
 
 unfoldable pub recordAt : List ℕ → Front Order
-recordAt l = recordAmong shapes l
+recordAt l = recordAmong table l
 
 -- the good lines at the front of a text, at most n of them, and the text behind them
 pub record Lines : Type 0 where

@@ -10,7 +10,8 @@ use Rattle.order.specs.declared.Operation.{Operation}
 use Rattle.order.specs.declared.Operation.the-variants.{Cmp}
 use Rattle.order.specs.declared.Order.{Order}
 use Rattle.order.specs.declared.Order.the-variants.{Word, Number, Stop}
-use Rattle.order.specs.Order.{operations, shapes, orderOf}
+use Rattle.order.specs.Order.{operations}
+use Rattle.order.specs.Memory.{shapes, orderOf}
 use Rattle.order_number.specs.Internal.{plainOrder}
 
 -- no order below 12 has a number that is 12 or more

@@ -3,7 +3,7 @@ use Prim.Native.Nat.{ℕ}
 use lib.ListN.{getD, take}
 use Rattle.order.specs.declared.Order.{Order}
 use Rattle.order.specs.declared.Order.the-variants.{Stop}
-use Rattle.order.specs.Order.{shapes}
+use Rattle.order.specs.Memory.{shapes}
 
 -- the orders with a number below 12
 unfoldable pub plainOrder : ℕ → ℕ → Order

@@ -5,7 +5,8 @@ use word::Relation;
 ghost use mathlib.Core.Path.{_≡_};
 ghost use Prim.Native.Nat.{_<_};
 ghost use lib.ListN.{getD};
-ghost use Rattle.order.specs.Order.{operationNumber, branchNumber, number, operand, operations, orderOf};
+ghost use Rattle.order.specs.Order.{operand, operations};
+ghost use Rattle.order.specs.Memory.{operationNumber, branchNumber, number, orderOf};
 ghost use Rattle.order.specs.declared.Operation.the-variants.{Cmp};
 ghost use Rattle.order_number.specs.Internal.{plainOrder};
 

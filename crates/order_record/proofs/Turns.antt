@@ -8,7 +8,7 @@ use Rattle.base.specs.Choice.{pick}
 use Rattle.base.specs.Front.{missing, onFront}
 use Rattle.base.proofs.Lists.{drop-more}
 use Rattle.order.specs.declared.Order.the-variants.{Stop}
-use Rattle.order.specs.Order.{shapes, orderOf}
+use Rattle.order.specs.Memory.{shapes, orderOf}
 use Rattle.order.specs.Object.{recordAmong}
 use Rattle.order_record.specs.Internal.{headingAt, numberAfter}
 

@@ -16,7 +16,8 @@ use Rattle.text.specs.Pieces.{decimal, Front, fixed}
 use Rattle.text.specs.Internal.{Placed, putByte, putAll}
 use Rattle.text.proofs.Writing.{putAll-append}
 use Rattle.order.specs.declared.Order.the-variants.{Stop}
-use Rattle.order.specs.Order.{operand, shapes, orderOf}
+use Rattle.order.specs.Order.{operand}
+use Rattle.order.specs.Memory.{shapes, orderOf}
 use Rattle.order.specs.Object.{heading, recordText}
 use Rattle.order.proofs.Records.{heading-at}
 use Rattle.order_record.specs.Internal.{headingAt}

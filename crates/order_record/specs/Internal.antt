@@ -7,7 +7,8 @@ use Rattle.base.specs.Choice.{pick}
 use Rattle.base.specs.Front.{found, missing, onFront}
 use Rattle.text.specs.Pieces.{Front, fixed, numeral}
 use Rattle.order.specs.declared.Order.{Order}
-use Rattle.order.specs.Order.{operand, orderOf}
+use Rattle.order.specs.Order.{operand}
+use Rattle.order.specs.Memory.{orderOf}
 use Rattle.order.specs.Object.{heading}
 use Rattle.order_record.specs.declared.Record.{Record}
 use Rattle.order_record.specs.declared.Record.the-variants.{Found, Missing as NoRecord}

@@ -15,7 +15,7 @@ ghost use mathlib.Core.Path.{_≡_};
 ghost use Prim.Native.Nat.{_≤_};
 ghost use lib.ListN.{length, drop};
 ghost use Rattle.text.specs.Internal.{behind, placed, putAll};
-ghost use Rattle.order.specs.Order.{orderOf};
+ghost use Rattle.order.specs.Memory.{orderOf};
 ghost use Rattle.order.specs.Object.{heading, recordText, recordAt};
 ghost use Rattle.order_record.specs.Internal.{orderFound, headingAt, numberAfter};
 

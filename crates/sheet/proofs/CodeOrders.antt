@@ -1,6 +1,6 @@
 -- The orders of an expression: which there are, with t temporaries at most, and that an expression's orders are cut off
 -- from what is behind them.
-use Prim.Native.Nat.{ℕ, suc, _+_, _≤_, _<_, max}
+use Prim.Native.Nat.{ℕ, suc, _+_, _≤_, _<_}
 use mathlib.Core.Path.{_≡_, refl}
 use mathlib.Core.Bool.{true}
 use mathlib.Core.List.{List, [], _∷_, _++_, reverseAux}
@@ -57,7 +57,7 @@ kept f v d left right a b hl hr =
     ((omega arith, omega arith), ((omega arith, omega arith), ((omega arith, omega arith), tt)))
   where
     t : ℕ
-    t = d + max a (max 2 (1 + b))
+    t = d + joinedTemporaries workedOut a b
 
     P : Order → Type 0
     P = OfExpression v t

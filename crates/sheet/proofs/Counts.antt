@@ -1,5 +1,5 @@
 -- The count of a program is a sum over the instructions done, each of which adds one order at least; the end adds STOP.
-use Prim.Native.Nat.{ℕ, zero, suc, _+_, _≤_}
+use Prim.Native.Nat.{ℕ, zero, suc, _≤_}
 use mathlib.Core.Path.{_≡_, refl, sym, ap, _∙_}
 use mathlib.Core.List.{List, [], _∷_}
 use native.Mathlib.Omega.{arith}
@@ -7,14 +7,8 @@ use borrow.Author.Tests.{eq-eqb, ne-eqb}
 use Rattle.base.specs.Choice.{pick}
 use Rattle.base.proofs.Cases.{by-equal}
 use Rattle.sheet.specs.Sheet.{Instruction, Sheet, sheet}
-use Rattle.sheet.specs.Meaning.{Counted, gives, faults, Next, onward, at, doInstruction, Progress, moved, stopped, instructionAt, further, after}
+use Rattle.sheet.specs.Meaning.{Counted, gives, faults, Next, onward, at, doInstruction, Progress, moved, stopped, instructionAt, further, after, Adds}
 use Rattle.sheet.proofs.Values.{Some, some-instruction}
-
--- some orders more are counted
-pub record Adds (p q : Progress) : Type 0 where
-  pub orders : ℕ
-  pub some : 1 ≤ orders
-  pub sum : q .count ≡ p .count + orders
 
 moved-adds : (p : Progress) (x : Counted Next) → Some x → Adds p (moved p x)
 moved-adds p (gives (onward m) k) h = record { orders = k; some = h; sum = refl }

@@ -19,7 +19,7 @@ use Rattle.order.specs.declared.Operation.the-variants.{Cmp}
 use Rattle.order.specs.declared.Order.{Order}
 use Rattle.order.specs.declared.Order.the-variants.{Store as Str, Jump, Branch, Send, Stop}
 use Rattle.machine.specs.Machine.{Machine, machine, goTo, advance, done, failed, effect, wordBytes, send as sends}
-use Rattle.machine.proofs.Effects.{Words}
+use Rattle.machine.specs.Frame.{Words}
 use Rattle.sheet.specs.Sheet.{Expression, Simple, set, send, goto, Instruction, simple, when, either, operand}
 use Rattle.sheet.specs.Translation.{code, simpleCode, comparisonCode, opposite, past, choice, closed, instructionCode, temporaries, simpleTemporaries, comparisonTemporaries, instructionTemporaries}
 use Rattle.sheet.specs.Within.{Expressed, Leads, SimpleFormed, InstructionFormed}

@@ -1,5 +1,5 @@
 -- What follows where something is read back: every reading that came before it found its part, and every test that could
--- refuse it passed; and what the tests of orders and words say.
+-- refuse it passed; and what the tests of words say.
 use Prim.Native.Nat.{ℕ, _+_, _≤_}
 use mathlib.Core.Path.{_≡_, refl, sym, ap, ap₂, _∙_}
 use mathlib.Core.Bool.{true, false}
@@ -12,8 +12,8 @@ use Rattle.base.specs.Front.{found}
 use Rattle.base.proofs.Cases.{chosen-second}
 use Rattle.base.proofs.Fronts.{never, let-through}
 use Rattle.order.specs.declared.Order.{Order}
-use Rattle.order.specs.declared.Order.the-variants.{Stop}
-use Rattle.order.specs.Order.{number, operand, shapes, orderOf}
+use Rattle.order.specs.Order.{operand}
+use Rattle.order.specs.Memory.{number, orderOf}
 use Rattle.order.proofs.Numbers.{order-again}
 use Rattle.sheet.specs.Within.{IsVariable}
 use Rattle.sheet.specs.ReadBack.{Back, expecting, nothingLeft, isVariable}
@@ -61,9 +61,3 @@ pub variable-told : (v w : ℕ) → isVariable v w ≡ true → IsVariable v w
 variable-told v w e =
     let two = chosen-second (ltb w 2) false (ltb w (v + 2)) true (λ f. let z : _≡_ {A = ℕ} 0 1 = cc in omega arith) e in
     (ltb-false w 2 (two .0), ltb-true w (v + 2) (two .1))
-
--- ---- STOP
-
-pub stop-told : (o : Order) → number o ≡ 0 → o ≡ Stop
-unfolding orderOf shapes
-stop-told o e = sym (order-again o) ∙ ap (λ k. orderOf k (operand o)) e

@@ -1,23 +1,19 @@
 -- The translation of a sheet within the limits is a good object: its words are variables and temporaries, its addresses are
 -- those of its orders, and STOP is its last order alone.
 use Prim.Native.Nat.{ℕ, zero, suc, _+_, _-_, _≤_, _<_}
-use mathlib.Core.Path.{_≡_, refl, sym}
+use mathlib.Core.Path.{_≡_, refl, ap, _∙_}
 use mathlib.Core.Bool.{false}
 use mathlib.Core.List.{List, [], _∷_, _++_}
 use native.Mathlib.Omega.{arith}
-use borrow.Author.Tests.{lt-ltb, le-ltb, eq-eqb, ne-eqb}
-use lib.ListN.{length, take, length-append, List·getD-append}
+use lib.ListN.{length, getD, take, length-append, List·getD-append}
 use lib.Seq.{getD-append-seam}
-use Rattle.base.specs.Choice.{pick}
-use Rattle.base.proofs.Cases.{by-less}
-use Rattle.word.specs.declared.Relation.{Relation}
 use Rattle.order.specs.declared.Order.{Order}
 use Rattle.order.specs.declared.Order.the-variants.{Word, Number, Store, Neg, Not, Jump, Branch, Send, Stop}
-use Rattle.order.specs.Order.{operand}
-use Rattle.order.specs.Object.{operandRefusal, isStop}
-use Rattle.order.specs.Good.{Good}
+use Rattle.order.specs.Object.{isStop}
+use Rattle.order.specs.Good.{OperandFits, Good}
+use Rattle.order.proofs.OrderTests.{not-stop}
 use Rattle.sheet.specs.Sheet.{Simple, set, send, goto, Instruction, simple, when, either, Sheet, sheet, variables}
-use Rattle.sheet.specs.Translation.{code, temporaries, simpleCode, comparisonCode, comparisonTemporaries, opposite}
+use Rattle.sheet.specs.Translation.{code, temporaries, simpleCode, comparisonCode, comparisonTemporaries}
 use Rattle.sheet.specs.Translation.{choice, closed}
 use Rattle.sheet.specs.Translation.{instructionCode, instructionsCode}
 use Rattle.sheet.specs.Translation.{ordersOfAll, firstOrder, simpleTemporaries, instructionTemporaries}
@@ -29,30 +25,16 @@ use Rattle.sheet.proofs.Targets.{all-count}
 
 -- an order other than STOP that an object of V, T and N can hold
 record Held (v t n : ℕ) (o : Order) : Type 0 where
-  fits : operand o ≤ 2147483647
-  taken : operandRefusal (v + t + 2) n o ≡ 0
+  fits : OperandFits v t n o
   goes-on : isStop o ≡ false
 
-module _ (v t n : ℕ) (few-variables : v ≤ 64) (few-temporaries : t ≤ 32) (few-orders : n ≤ 1024) where
-  jump-held : (a : ℕ) → a < n → Held v t n (Jump a)
-  unfolding pick
-  jump-held a h = record { fits = omega arith; taken = rw (lt-ltb a n h) refl; goes-on = refl }
-
-  branch-held : (r : Relation) (a : ℕ) → a < n → Held v t n (Branch r a)
-  branch-held r a h = let alike = jump-held a h in record { fits = alike .fits; taken = alike .taken; goes-on = refl }
-
-  store-held : (w : ℕ) → 2 ≤ w → w < v + t + 2 → Held v t n (Store w)
-  unfolding pick
-  store-held w h k = record { fits = omega arith; taken = rw (le-ltb w 2 h, lt-ltb w (v + t + 2) k) refl; goes-on = refl }
-
+module _ (v t n : ℕ) where
   expression-held : (u : ℕ) → u ≤ t → (o : Order) → OfExpression v u o → Held v t n o
-  expression-held u h (Word f w) p =
-      let alike = store-held w (p .0) (omega arith) in
-      record { fits = alike .fits; taken = alike .taken; goes-on = refl }
-  expression-held u h (Number f k) p = record { fits = p; taken = refl; goes-on = refl }
-  expression-held u h (Store w) p = store-held w (omega arith) (omega arith)
-  expression-held u h Neg p = record { fits = omega arith; taken = refl; goes-on = refl }
-  expression-held u h Not p = record { fits = omega arith; taken = refl; goes-on = refl }
+  expression-held u h (Word f w) p = record { fits = (p .0, omega arith); goes-on = refl }
+  expression-held u h (Number f k) p = record { fits = p; goes-on = refl }
+  expression-held u h (Store w) p = record { fits = (omega arith, omega arith); goes-on = refl }
+  expression-held u h Neg p = record { fits = tt; goes-on = refl }
+  expression-held u h Not p = record { fits = tt; goes-on = refl }
   expression-held u h (Jump a) p = absurd p
   expression-held u h (Branch r a) p = absurd p
   expression-held u h Send p = absurd p
@@ -66,12 +48,12 @@ module _ (v t n : ℕ) (few-variables : v ≤ 64) (few-temporaries : t ≤ 32) (
     simple-held (set w e) x h =
         each-append (Held v t n) (code v 0 e) (Store w ∷ [])
         (all-held (temporaries e) h (code v 0 e) (statement-orders v e (x .1)))
-        (store-held w (x .0 .0) (omega arith), tt)
+        (record { fits = (x .0 .0, omega arith); goes-on = refl }, tt)
     simple-held (send e) x h =
         each-append (Held v t n) (code v 0 e) (Send ∷ [])
         (all-held (temporaries e) h (code v 0 e) (statement-orders v e x))
-        (record { fits = omega arith; taken = refl; goes-on = refl }, tt)
-    simple-held (goto s) x h = (jump-held (to s) (leads-below s x), tt)
+        (record { fits = tt; goes-on = refl }, tt)
+    simple-held (goto s) x h = (record { fits = leads-below s x; goes-on = refl }, tt)
 
     instruction-held :
         (p : ℕ) (i : Instruction)
@@ -84,7 +66,7 @@ module _ (v t n : ℕ) (few-variables : v ≤ 64) (few-temporaries : t ≤ 32) (
         let below = simp length-append at k in
         each-append (Held v t n) (comparisonCode v a b) _
         (all-held (comparisonTemporaries a b) (omega arith) (comparisonCode v a b) (comparison-orders v a b (x .0) (x .1)))
-        (branch-held (opposite r) _ (omega arith), simple-held u (x .2) (omega arith))
+        (record { fits = omega arith; goes-on = refl }, simple-held u (x .2) (omega arith))
     instruction-held p (either r a b u w) x h k =
         let below = simp length-append at k in
         each-append (Held v t n)
@@ -92,8 +74,8 @@ module _ (v t n : ℕ) (few-variables : v ≤ 64) (few-temporaries : t ≤ 32) (
         (simpleCode v to w)
         (each-append (Held v t n) (comparisonCode v a b) _
         (all-held (comparisonTemporaries a b) (omega arith) (comparisonCode v a b) (comparison-orders v a b (x .0) (x .1))) (
-          branch-held (opposite r) _ (simp length-append (omega arith)),
-          each-append (Held v t n) (simpleCode v to u) _ (simple-held u (x .2) (omega arith)) (jump-held _ (omega arith), tt),
+          record { fits = simp length-append (omega arith); goes-on = refl },
+          each-append (Held v t n) (simpleCode v to u) _ (simple-held u (x .2) (omega arith)) (record { fits = omega arith; goes-on = refl }, tt),
         ))
         (simple-held w (x .3) (omega arith))
 
@@ -134,19 +116,17 @@ ended-good v t os few-variables few-temporaries few-orders held =
       temporaries = few-temporaries;
       some-orders = omega arith;
       few-orders = few-orders;
-      numbers =
-          each-at (λ o. operand o ≤ 2147483647) l Stop
-          (each-append (λ o. operand o ≤ 2147483647) os (Stop ∷ [])
-          (each-map (Held v t (length l)) _ (λ o h. h .fits) os held) (omega arith, tt));
       operands =
-          each-at (λ o. operandRefusal (v + t + 2) (length l) o ≡ 0) l Stop
-          (each-append (λ o. operandRefusal (v + t + 2) (length l) o ≡ 0) os (Stop ∷ [])
-          (each-map (Held v t (length l)) _ (λ o h. h .taken) os held) (refl, tt));
-      stops = λ k h. by-less k (length os)
-          (λ before. rw (List·getD-append os (Stop ∷ []) Stop k before, each-at (Held v t (length l)) os Stop held k before .goes-on)
-          (sym (ne-eqb k (length l - 1) (omega arith))))
-          (λ behind. let last : k ≡ length os = omega arith in
-          rw (last, getD-append-seam os Stop [] Stop) (sym (eq-eqb (length os) (length l - 1) (omega arith))));
+          each-at (OperandFits v t (length l)) l Stop
+          (each-append (OperandFits v t (length l)) os (Stop ∷ [])
+          (each-map (Held v t (length l)) _ (λ o h. h .fits) os held) (tt, tt));
+      stop-last =
+          let last : length l - 1 ≡ length os = omega arith in
+          ap (λ k. getD l k Stop) last ∙ getD-append-seam os Stop [] Stop;
+      no-stop-earlier =
+          λ k h. let before : k < length os = omega arith in
+          not-stop (getD l k Stop)
+          (ap isStop (List·getD-append os (Stop ∷ []) Stop k before) ∙ each-at (Held v t (length l)) os Stop held k before .goes-on);
     }
   where
     l : List Order
@@ -156,7 +136,7 @@ pub translation-good : (s : Sheet) → Within s → Good (variables s) (sheetTem
 translation-good (sheet v is) w =
     let counted = length-append os (Stop ∷ []) in
     ended-good v t os (w .few-variables) (w .few-temporaries) (w .few-orders)
-    (instructions-held v t n (w .few-variables) (w .few-temporaries) (w .few-orders) (length is) (firstOrder v is)
+    (instructions-held v t n (length is) (firstOrder v is)
     (λ s h. omega (arith, first-below v (s - 1) is, all-count v (firstOrder v is) 0 is))
     0 is (w .formed) (omega arith) (omega arith))
   where

@@ -14,13 +14,14 @@ use Rattle.word.specs.declared.Relation.the-variants.{Equal, Unequal, Less, AtM
 use Rattle.order.specs.declared.Order.{Order}
 use Rattle.order.specs.declared.Order.the-variants.{Store, Jump, Branch, Send, Stop}
 use Rattle.sheet.specs.Sheet.{Expression, Simple, set, send, goto, Instruction, simple, when, either}
+use Rattle.sheet.specs.Sheet.{retarget, retargetOne}
 use Rattle.sheet.specs.Translation.{code, simpleCode, opposite, comparisonCode, comparisonTemporaries}
 use Rattle.sheet.specs.Translation.{instructionCode, instructionsCode}
 use Rattle.sheet.specs.Within.{Expressed, SimpleFormed, InstructionFormed, AllFormed}
 use Rattle.sheet.specs.ReadBack.{Back, nothingLeft, operands, inExpression, cut, cutFrom, wholly}
 use Rattle.sheet.specs.ReadBack.{simpleEnd, simpleCut, simpleAt, elseAt, choiceAt, asSimple, instructionEnd}
 use Rattle.sheet.specs.ReadBack.{instructionCut}
-use Rattle.sheet.specs.ReadBack.{instructionAt, isEnd, instructionsAt, retarget, retargetOne, retargetAll}
+use Rattle.sheet.specs.ReadBack.{instructionAt, isEnd, instructionsAt, retargetAll}
 use Rattle.sheet.proofs.Found.{variable-yes}
 use Rattle.sheet.proofs.Each.{Each}
 use Rattle.sheet.proofs.CodeOrders.{OfExpression, statement-orders, comparison-orders, cut-behind}

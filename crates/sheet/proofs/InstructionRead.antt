@@ -14,7 +14,7 @@ use Rattle.base.proofs.Fronts.{never, let-through, both-found}
 use Rattle.word.specs.declared.Relation.{Relation}
 use Rattle.order.specs.declared.Order.{Order}
 use Rattle.order.specs.declared.Order.the-variants.{Word, Number, Store, Neg, Not, Jump, Branch, Send, Stop}
-use Rattle.order.specs.Order.{number}
+use Rattle.order.proofs.OrderTests.{stop-told}
 use Rattle.sheet.specs.Sheet.{Expression, Simple, set, send, goto, Instruction, simple, when, either}
 use Rattle.sheet.specs.Translation.{code, simpleCode, opposite, comparisonCode, instructionCode, instructionsCode}
 use Rattle.sheet.specs.Within.{IsVariable, Expressed}
@@ -23,7 +23,7 @@ use Rattle.sheet.specs.ReadBack.{expressionBack, comparisonBack, wholly,
 use Rattle.sheet.specs.ReadBack.{jumpsTo, elseAt}
 use Rattle.sheet.specs.ReadBack.{choiceAt, asSimple, instructionEnd, instructionCut, instructionAt, isEnd}
 use Rattle.sheet.specs.ReadBack.{instructionsAt}
-use Rattle.sheet.proofs.Found.{all-read, variable-told, stop-told}
+use Rattle.sheet.proofs.Found.{all-read, variable-told}
 use Rattle.sheet.proofs.Each.{Each}
 use Rattle.sheet.proofs.ExpressionRead.{Small, expression-read, comparison-read}
 use Rattle.sheet.proofs.InstructionAgain.{opposite-twice}
@@ -323,7 +323,7 @@ pub record AllRead (v p : ℕ) (l : List Order) (is : List Instruction) : Type 0
 end-told : (l : List Order) → isEnd l ≡ true → l ≡ Stop ∷ []
 unfolding isEnd
 end-told [] e = let z : _≡_ {A = ℕ} 0 1 = cc in absurd (omega arith)
-end-told (o ∷ []) e = ap (λ x. x ∷ []) (stop-told o (eqb-true (number o) 0 e))
+end-told (o ∷ []) e = ap (λ x. x ∷ []) (stop-told o e)
 end-told (o ∷ q ∷ l) e = let z : _≡_ {A = ℕ} 0 1 = cc in absurd (omega arith)
 
 pub instructions-read :

@@ -16,5 +16,6 @@ pub mod ReadBack
 pub mod Retargeted
 pub mod Simulation
 pub mod Targets
+pub mod Temporaries
 pub mod Values
 pub mod Worked

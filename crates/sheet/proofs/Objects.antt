@@ -8,17 +8,12 @@ use Rattle.order.proofs.RoundTrip.{read-text, text-read, read-good}
 use Rattle.sheet.specs.Sheet.{Sheet, variables}
 use Rattle.sheet.specs.Translation.{translation, sheetTemporaries, objectText}
 use Rattle.sheet.specs.Within.{Within}
-use Rattle.sheet.specs.ReadBack.{Given, given, none, untranslate}
+use Rattle.sheet.specs.ReadBack.{given, readBack}
 use Rattle.sheet.proofs.GoodObject.{translation-good}
 use Rattle.sheet.proofs.ReadBack.{read-back, given-translates}
 
 pub object-read : (s : Sheet) → Within s → reading (objectText s) ≡ object (variables s) (sheetTemporaries s) (translation s)
 object-read s w = read-text (variables s) (sheetTemporaries s) (translation s) (translation-good s w)
-
--- the sheet of an object text that is read; none where it is refused
-abbrev pub readBack : Reading → Given
-readBack (object v t os) = untranslate v t os
-readBack (refused n place) = none
 
 -- an object text gives its sheet back, and only the object text of a sheet gives one: that sheet
 pub object-back : (s : Sheet) → Within s → readBack (reading (objectText s)) ≡ given s

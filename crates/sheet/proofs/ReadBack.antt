@@ -15,6 +15,7 @@ use Rattle.order.specs.declared.Order.{Order}
 use Rattle.order.specs.declared.Order.the-variants.{Stop}
 use Rattle.order.specs.Good.{Good}
 use Rattle.order.specs.Order.{operand}
+use Rattle.order.proofs.OrderTests.{numbers-small}
 use Rattle.sheet.specs.Sheet.{Instruction, Sheet, sheet, variables}
 use Rattle.sheet.specs.Translation.{firstOrder, temporariesOfAll, sheetTemporaries, translation}
 use Rattle.sheet.specs.Within.{Leads, Within}
@@ -100,7 +101,7 @@ unfolding Translates
 given-translates v t os s g e = go (instructionsAt (length os) v (length os) os) refl e
   where
     small : Small os
-    small = each-of (λ o. operand o ≤ 2147483647) os Stop (g .numbers)
+    small = each-of (λ o. operand o ≤ 2147483647) os Stop (numbers-small v t os g)
 
     go :
         (b : Back (List Instruction))

@@ -8,11 +8,11 @@ use lib.ListN.{length, take}
 use Rattle.base.specs.Choice.{pick}
 use Rattle.base.proofs.Cases.{both-yes}
 use Rattle.order.specs.declared.Order.the-variants.{Jump}
-use Rattle.sheet.specs.Sheet.{Simple, set, send, goto, Instruction, simple, when, either}
+use Rattle.sheet.specs.Sheet.{Simple, set, send, goto, Instruction, simple, when, either, retarget, retargetOne}
 use Rattle.sheet.specs.Translation.{simpleCode, instructionCode, instructionsCode, orders, ordersOfAll}
 use Rattle.sheet.specs.Translation.{simpleTemporaries, instructionTemporaries, temporariesOfAll}
 use Rattle.sheet.specs.Within.{Leads, SimpleFormed, InstructionFormed, AllFormed}
-use Rattle.sheet.specs.ReadBack.{numberFrom, retarget, retargetOne, retargetAll, leads, leadsOne, leadsAll}
+use Rattle.sheet.specs.ReadBack.{numberFrom, retargetAll, leads, leadsOne, leadsAll}
 use Rattle.sheet.proofs.Each.{Each}
 use Rattle.sheet.proofs.InstructionRead.{SimpleShaped, InstructionShaped, asRead}
 

@@ -10,7 +10,8 @@ use Rattle.word.specs.declared.Relation.{Relation}
 use Rattle.word.specs.Word.{Outcome, negation, notBits, related, relatedToZero, comparison}
 use Rattle.word.proofs.Agreement.{relation-agrees}
 use Rattle.word.proofs.Closed.{negation-closed, not-closed}
-use Rattle.machine.proofs.Effects.{Given, gives as worked, faults as faulting, operation-gives, Words}
+use Rattle.machine.specs.Frame.{Words}
+use Rattle.machine.proofs.Effects.{Given, gives as worked, faults as faulting, operation-gives}
 use Rattle.sheet.specs.declared.Operator.{Operator}
 use Rattle.sheet.specs.declared.Operator.the-variants.{Plus, Minus, Times, Over, Power, Left, Right, And, Or, Unlike}
 use Rattle.sheet.specs.Sheet.{Expression, word, constant, negated, inverted, binary, Operand, inWord, itself, workedOut, operand}
@@ -114,7 +115,7 @@ module _ (ws : List ℕ) (words : Words ws) where
       (small-worth v l (x .0))
       (small-worth v r (x .1))
 
--- ---- "each at least one order"
+-- ---- each takes one order at least
 
 abbrev pub Some : {A : Type 0} → Counted A → Type 0
 Some (gives a k) = 1 ≤ k

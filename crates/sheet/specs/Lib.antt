@@ -1,5 +1,6 @@
 pub mod Sheet
 pub mod Translation
+pub mod Temporaries
 pub mod Within
 pub mod Fields
 pub mod Meaning

@@ -1,7 +1,8 @@
 -- What a sheet means, document 01: "laid down on its instructions and the word arithmetic, never by running orders. It
 -- counts, for each instruction done, the orders of the path it takes, STOP too, and in a faulting one the orders before the
 -- fault." Comments in quotes are document 01's words.
-use Prim.Native.Nat.{ℕ, zero, suc, _+_}
+use Prim.Native.Nat.{ℕ, zero, suc, _+_, _≤_}
+use mathlib.Core.Path.{_≡_}
 use mathlib.Core.Bool.{Bool}
 use mathlib.Core.List.{List, [], _∷_, _++_}
 use lib.Dec.{ltb, eqb}
@@ -149,3 +150,9 @@ beginning v = record { next = 1; store = record { words = replicate (v + 2) 0; s
 unfoldable pub after : ℕ → ℕ → Sheet → Progress
 after zero room (sheet v is) = beginning v
 after (suc k) room (sheet v is) = further room is (after k room (sheet v is))
+
+-- q counts some orders more than p
+pub record Adds (p q : Progress) : Type 0 where
+  pub orders : ℕ
+  pub some : 1 ≤ orders
+  pub sum : q .count ≡ p .count + orders

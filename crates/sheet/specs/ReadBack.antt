@@ -13,11 +13,13 @@ use Rattle.order.specs.declared.Operation.{Operation}
 use Rattle.order.specs.declared.Operation.the-variants.{Load, Add, Sub, Mlt, Div, Exp, Shl, Shr, And, Or, Xor, Cmp}
 use Rattle.order.specs.declared.Order.{Order}
 use Rattle.order.specs.declared.Order.the-variants.{Word, Number, Store, Neg, Not, Jump, Branch, Send, Stop}
-use Rattle.order.specs.Order.{number, operand as orderOperand}
+use Rattle.order.specs.Order.{operand as orderOperand}
+use Rattle.order.specs.Memory.{number}
+use Rattle.order.specs.Object.{isStop, Reading, object, refused}
 use Rattle.sheet.specs.declared.Operator.{Operator}
 use Rattle.sheet.specs.declared.Operator.the-variants.{Plus, Minus, Times, Over, Power, Left, Right, And as Both, Or as Any, Unlike}
 use Rattle.sheet.specs.Sheet.{Expression, word, constant, negated, inverted, binary, Simple, set, send, goto, Instruction, simple, when, either}
-use Rattle.sheet.specs.Sheet.{Sheet, sheet, Operand, inWord, itself, workedOut, operand}
+use Rattle.sheet.specs.Sheet.{Sheet, sheet, Operand, inWord, itself, workedOut, operand, retargetOne}
 use Rattle.sheet.specs.Translation.{temporary, opposite, orders, temporariesOfAll}
 
 -- what was read, and the orders that are left; or nothing of the form
@@ -248,7 +250,7 @@ instructionAt v n l = instructionCut v n (cutFrom v [] l)
 -- STOP alone is left
 unfoldable pub isEnd : List Order → Bool
 isEnd [] = false
-isEnd (o ∷ []) = eqb (number o) 0
+isEnd (o ∷ []) = isStop o
 isEnd (o ∷ q ∷ l) = false
 
 -- at most `most` instructions, up to STOP
@@ -272,16 +274,6 @@ abbrev pub numberOf : ℕ → List Instruction → ℕ → ℕ
 numberOf v is a = numberFrom v is 0 1 a
 
 -- the instructions with GOTO `to` a in the place of GOTO a; none where that is 0
-abbrev pub retarget : (ℕ → ℕ) → Simple → Simple
-retarget to (set w e) = set w e
-retarget to (send e) = send e
-retarget to (goto a) = goto (to a)
-
-abbrev pub retargetOne : (ℕ → ℕ) → Instruction → Instruction
-retargetOne to (simple u) = simple (retarget to u)
-retargetOne to (when r a b u) = when r a b (retarget to u)
-retargetOne to (either r a b u w) = either r a b (retarget to u) (retarget to w)
-
 unfoldable pub retargetAll : (ℕ → ℕ) → List Instruction → List Instruction
 retargetAll to [] = []
 retargetAll to (i ∷ is) = retargetOne to i ∷ retargetAll to is
@@ -314,3 +306,8 @@ renumbered v t (found is l) = numbered v t (retargetAll (numberOf v is) is)
 -- the sheet that an object's orders are the translation of, from its V and T
 abbrev pub untranslate : ℕ → ℕ → List Order → Given
 untranslate v t os = renumbered v t (instructionsAt (length os) v (length os) os)
+
+-- that of an object text that was read; none where it is refused
+abbrev pub readBack : Reading → Given
+readBack (object v t os) = untranslate v t os
+readBack (refused n place) = none

@@ -47,3 +47,14 @@ operand (constant n) = itself n
 operand (negated e) = workedOut
 operand (inverted e) = workedOut
 operand (binary o l r) = workedOut
+
+-- an instruction with GOTO `to` s in the place of GOTO s
+abbrev pub retarget : (ℕ → ℕ) → Simple → Simple
+retarget to (set w e) = set w e
+retarget to (send e) = send e
+retarget to (goto s) = goto (to s)
+
+abbrev pub retargetOne : (ℕ → ℕ) → Instruction → Instruction
+retargetOne to (simple u) = simple (retarget to u)
+retargetOne to (when r a b u) = when r a b (retarget to u)
+retargetOne to (either r a b u w) = either r a b (retarget to u) (retarget to w)

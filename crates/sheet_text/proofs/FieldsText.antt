@@ -15,7 +15,7 @@ use Rattle.text.proofs.Decimal.{numeral-decimal}
 use Rattle.sheet.specs.declared.Field.{Field}
 use Rattle.sheet.specs.Fields.{fieldText}
 use Rattle.sheet.proofs.Each.{Each}
-use Rattle.sheet_text.specs.Internal.{begins, opens, fieldsText, headerText}
+use Rattle.sheet_text.specs.TextOfFields.{begins, opens, fieldsText, headerText}
 use Rattle.sheet_text.proofs.FieldText.{Closed, tab, newline, afterDigits, after-number}
 use Rattle.sheet_text.proofs.FieldText.{fieldAt, field-read, no-field}
 use Rattle.sheet_text.proofs.SmallNumbers.{Small}

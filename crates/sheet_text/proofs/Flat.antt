@@ -15,7 +15,7 @@ use Rattle.sheet.specs.Fields.{expressionFields, simpleFields, instructionField
 use Rattle.sheet.specs.Fields.{fieldText, lineRest, line, lines, sheetText}
 use Rattle.sheet_field.specs.Memory.{fieldsFrom}
 use Rattle.sheet_text.specs.Answers.{InMemory}
-use Rattle.sheet_text.specs.Internal.{begins, opens, fieldsText, headerText, flatText}
+use Rattle.sheet_text.specs.TextOfFields.{begins, opens, fieldsText, headerText, textOfFields}
 
 -- the fields xs behind tabs, and a text behind them
 unfoldable tabbed : List Field → List ℕ → List ℕ
@@ -156,10 +156,10 @@ lines-flat (i ∷ is) =
     ∙ ap (behind 10 (instructionFields i)) (lines-flat is)
     ∙ instruction-line i (lines is)
 
-pub flat-sheet : (s : Sheet) → flatText (variables s) (length (instructions s)) (sheetFields s) ≡ sheetText s
+pub flat-sheet : (s : Sheet) → textOfFields (variables s) (length (instructions s)) (sheetFields s) ≡ sheetText s
 flat-sheet (sheet v is) = ap (λ t. headerText v (length is) ++ t) (lines-flat is)
 
--- of a sheet in memory
+-- the text of the fields of a sheet in memory is the sheet's text
 pub flat-memory : (s : Sheet) (ks vs : List ℕ) (n v is : ℕ) → InMemory s ks vs n v is
-    → flatText v is (fieldsFrom 0 n ks vs) ≡ sheetText s
+    → textOfFields v is (fieldsFrom 0 n ks vs) ≡ sheetText s
 flat-memory s ks vs n v is m = rw (m .fields, ← m .its-variables, ← m .its-instructions) (flat-sheet s)

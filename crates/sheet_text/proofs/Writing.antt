@@ -13,7 +13,7 @@ use Rattle.sheet.specs.declared.Field.{Field}
 use Rattle.sheet.specs.Fields.{fieldText}
 use Rattle.sheet_field.specs.Memory.{fieldOf, fieldsFrom}
 use Rattle.sheet_field.proofs.Stored.{fields-more, fields-over}
-use Rattle.sheet_text.specs.Internal.{opens, separator, fieldsText, headerText, flatText}
+use Rattle.sheet_text.specs.TextOfFields.{opens, separator, fieldsText, headerText, textOfFields}
 
 -- the header
 pub put-header-parts : (v is : ℕ) (p : Placed)
@@ -71,7 +71,7 @@ module _ (ks vs : List ℕ) where
   -- the last newline is counted first
   pub count-start : (n v is : ℕ)
       → length (decimal v) + length (decimal is) + 8 + length (fieldsText false (left n 0))
-      ≡ 1 + length (flatText v is (fieldsFrom 0 n ks vs))
+      ≡ 1 + length (textOfFields v is (fieldsFrom 0 n ks vs))
   count-start n v is =
       rw (left-all n)
       (omega (arith, header-length v is, length-append (headerText v is) (fieldsText false (fieldsFrom 0 n ks vs))))

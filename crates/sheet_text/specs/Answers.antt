@@ -1,11 +1,12 @@
--- What the writer of a sheet is given, and what each case of its answer stands for.
+-- What each case of the writer's answer stands for, and what a sheet in memory is: proofs/Flat.antt shows that the text of its
+-- fields is the sheet's. Comments in quotes are document 01's words.
 use Prim.Native.Nat.{ℕ}
 use mathlib.Core.Path.{_≡_}
 use mathlib.Core.List.{List}
 use lib.ListN.{length}
 use Rattle.text.specs.Buffer.{Reply, reply, replyOr}
 use Rattle.sheet.specs.Sheet.{Sheet, variables, instructions}
-use Rattle.sheet.specs.Fields.{sheetFields, sheetText}
+use Rattle.sheet.specs.Fields.{sheetFields}
 use Rattle.sheet_field.specs.Memory.{fieldsFrom}
 use Rattle.sheet_text.specs.declared.Written.{Written}
 use Rattle.sheet_text.specs.declared.Written.the-variants.{Whole, Short}
@@ -15,10 +16,6 @@ pub record InMemory (s : Sheet) (ks vs : List ℕ) (n v is : ℕ) : Type 0 where
   pub fields : fieldsFrom 0 n ks vs ≡ sheetFields s
   pub its-variables : variables s ≡ v
   pub its-instructions : length (instructions s) ≡ is
-
--- what holds of the text of a sheet, for every sheet that is so in memory
-abbrev pub ForText : List ℕ → List ℕ → ℕ → ℕ → ℕ → (List ℕ → Type 0) → Type 0
-ForText ks vs n v is P = (s : Sheet) → InMemory s ks vs n v is → P (sheetText s)
 
 -- 0 "accepted; text length given", 32 "sheet buffer too short"
 abbrev pub written : Written → Reply

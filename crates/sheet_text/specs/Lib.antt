@@ -1,2 +1,2 @@
+pub mod TextOfFields
 pub mod Answers
-pub mod Internal

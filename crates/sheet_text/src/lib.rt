@@ -18,8 +18,8 @@ ghost use Rattle.text.specs.Buffer.{filledWith};
 ghost use Rattle.text.specs.Internal.{placed, putAll};
 ghost use Rattle.sheet.specs.Fields.{fieldText};
 ghost use Rattle.sheet_field.specs.Memory.{fieldsFrom};
-ghost use Rattle.sheet_text.specs.Answers.{ForText, written, replyFor};
-ghost use Rattle.sheet_text.specs.Internal.{begins, opens, separator, headerText, fieldsText, flatText};
+ghost use Rattle.sheet_text.specs.Answers.{written, replyFor};
+ghost use Rattle.sheet_text.specs.TextOfFields.{begins, opens, separator, headerText, fieldsText, textOfFields};
 
 // What became of a text: its length, or that the buffer is shorter than it.
 pub enum Written {
@@ -172,9 +172,9 @@ fn field_length(f: Field) -> usize
     front + decimal_length(value_of(f))
 }
 
-// The length of the text of the first n fields, for any fields that two arrays hold.
-fn flat_length(kinds: &[u8], values: &[u32], n: u32, v: u32, instructions: u32) -> usize
-    ensures { λ r. ⌜ r ≡ length (flatText v instructions (fieldsFrom 0 n (now (kinds .entry)) (now (values .entry)))) ⌝ }
+// The length of the text that `write` writes.
+pub fn text_length(kinds: &[u8], values: &[u32], n: u32, v: u32, instructions: u32) -> usize
+    ensures { λ r. ⌜ r ≡ length (textOfFields v instructions (fieldsFrom 0 n (now (kinds .entry)) (now (values .entry)))) ⌝ }
 {
     let mut total = decimal_length(v) + decimal_length(instructions) + 8;
     let mut i: u32 = 0;
@@ -186,15 +186,8 @@ fn flat_length(kinds: &[u8], values: &[u32], n: u32, v: u32, instructions: u32) 
     total
 }
 
-// The length of the text that `write` writes.
-pub fn text_length(kinds: &[u8], values: &[u32], n: u32, v: u32, instructions: u32) -> usize
-    ensures { λ r. ⌜ ForText (now (kinds .entry)) (now (values .entry)) n v instructions (λ t. r ≡ length t) ⌝ }
-{
-    flat_length(kinds, values, n, v, instructions)
-}
-
-// Writes the text of the sheet with V, a number of instructions and the first n fields of two arrays: their kinds and what
-// they carry. The room for all of it is tested first, so a buffer that is too short keeps every byte.
+// Writes the text of V, a number of instructions and the first n fields of two arrays: their kinds and what they carry. The
+// room for all of it is tested first, so a buffer that is too short keeps every byte.
 pub fn write(
     kinds: &[u8],
     values: &[u32],
@@ -203,10 +196,10 @@ pub fn write(
     instructions: u32,
     buffer: &mut [u8],
 ) -> Written
-    ensures replied { λ r. ⌜ ForText (now (kinds .entry)) (now (values .entry)) n v instructions (λ t. written r ≡ replyFor t (now (buffer .entry))) ⌝ }
-    ensures filled { λ _. ⌜ ForText (now (kinds .entry)) (now (values .entry)) n v instructions (λ t. now (buffer .exit) ≡ filledWith t (now (buffer .entry))) ⌝ }
+    ensures replied { λ r. ⌜ written r ≡ replyFor (textOfFields v instructions (fieldsFrom 0 n (now (kinds .entry)) (now (values .entry)))) (now (buffer .entry)) ⌝ }
+    ensures filled { λ _. ⌜ now (buffer .exit) ≡ filledWith (textOfFields v instructions (fieldsFrom 0 n (now (kinds .entry)) (now (values .entry)))) (now (buffer .entry)) ⌝ }
 {
-    let total = flat_length(kinds, values, n, v, instructions);
+    let total = text_length(kinds, values, n, v, instructions);
     if buffer.len() < total {
         return Written::Short;
     }

@@ -6,7 +6,7 @@ use native.Mathlib.Omega.{arith}
 use lib.ListN.{length, length-append}
 use lib.Seq.{getD-append-add}
 use Rattle.machine.specs.declared.Registers.{Registers}
-use Rattle.machine.proofs.Effects.{Words}
+use Rattle.machine.specs.Frame.{Words}
 use Rattle.skimp_state.specs.State.{numberAt, numberBytes, registersOf, registerBytes, wordsAt, wordsBytes, stateBytes}
 use Rattle.skimp_state.proofs.Bytes.{length-number}
 

@@ -1,5 +1,6 @@
--- The bytes of a state, include/skimp.h: "all numbers highest byte first: accumulator (bytes 0 to 3), next order (4 to 7),
--- count sent (8 to 15), ending (16 to 19 ..), then words 0, 1, 2 .. of four bytes each".
+-- The bytes of a state, as include/skimp.h has them: the accumulator in bytes 0 to 3, the next order in 4 to 7, the count of
+-- numbers sent in 8 to 15, the ending in 16 to 19; from byte 20 on the words 0, 1, 2 .., four bytes each. In each of them the
+-- highest byte is first.
 use Prim.Native.Nat.{ℕ, zero, suc, _+_, _*_, _/_, _%_}
 use mathlib.Core.List.{List, [], _∷_, _++_}
 use lib.ListN.{getD}

@@ -186,7 +186,7 @@ module _ (v : ℕ) where
       on-one (lexeme c cells) (λ rest. lexemesIn k rest) (lexeme-fine c cells h) (λ rest small-rest. in-fine k rest small-rest)
 
   pub lexemes-fine : (cells : List ℕ) → Each Small cells → LexedFine (lexemes cells)
-  lexemes-fine cells h = in-fine (length cells) cells h
+  lexemes-fine cells h = in-fine _ cells h
 
 -- ---- names looked up
 

@@ -10,11 +10,10 @@ use lib.Seq.{take-length}
 use Rattle.base.proofs.Cases.{either-part}
 use Rattle.order.specs.Limits.{mostVariables, mostTemporaries, mostOrders}
 use Rattle.order.specs.declared.Order.the-variants.{Stop}
-use Rattle.sheet.specs.Sheet.{Instruction, sheet}
-use Rattle.sheet.specs.Fields.{instructionFields}
+use Rattle.sheet.specs.Sheet.{Instruction, sheet, retargetOne}
 use Rattle.sheet.specs.Translation.{instructionsCode, ordersOfAll, firstOrder, translation, instructionTemporaries, temporariesOfAll}
 use Rattle.sheet.specs.Within.{AllFormed, Within}
-use Rattle.sheet.specs.ReadBack.{retargetOne, retargetAll}
+use Rattle.sheet.specs.ReadBack.{retargetAll}
 use Rattle.sheet.proofs.Each.{Each, each-append, each-map}
 use Rattle.sheet.proofs.InstructionRead.{InstructionShaped}
 use Rattle.sheet.proofs.Targets.{all-count}
@@ -23,7 +22,7 @@ use Rattle.source.specs.Limits.{mostLabels}
 use Rattle.source.specs.Tokens.{Lexeme, Lexed, lexed, refused as wrong, lexemes}
 use Rattle.source.specs.Grammar.{Form, beginning, declaration, ending, labels, instruction, noForm, form}
 use Rattle.source.specs.Program.{Part, nothing, declarations, instructions, Label, label, Placed, placed, Program, nothingRead, instructionOf}
-use Rattle.source.specs.Program.{Outcome, refused, further, given, allKnown, lookedUp, namesIn, canDeclare, declaring, declare, numberOf, isLabel}
+use Rattle.source.specs.Program.{Outcome, refused, further, given, known, lookedUp, namesIn, canDeclare, declaring, declare, numberOf, isLabel}
 use Rattle.source.specs.Program.{labelsSet, canSet, jumpsIn, all, nextNumber, setting, placing}
 use Rattle.source.specs.Program.{labelling, instructing, Unset, unset, allSet, firstUnset, sheetOf, finished, opened, inOrder}
 use Rattle.source.specs.Program.{onLexed, statement}
@@ -187,8 +186,8 @@ module _ (p : Program) (g : Good p) where
   instructing-good k ls i h =
       let q = setting p ls in
       let orders = suc (ordersOfAll (length (p .names)) (map instructionOf (p .placed-in ++ placed k i ∷ []))) in
-      either-part OutcomeGood (allKnown (instructionFields i)) _ _
-      (λ known. either-part OutcomeGood (all isLabel (jumpsIn (instructionFields i))) _ _
+      either-part OutcomeGood (known i) _ _
+      (λ known. either-part OutcomeGood (all isLabel (jumpsIn i)) _ _
       (λ y. either-part OutcomeGood (canSet (nextNumber p) (p .set) ls) _ _
       (λ y. either-part OutcomeGood (ltb mostLabels (length (q .set))) _ _
       (λ y. tt)

@@ -1,6 +1,7 @@
 pub mod BoundedForms
 pub mod Bracketed
 pub mod Chains
+pub mod EveryCell
 pub mod Examples
 pub mod FineTokens
 pub mod Fuel
@@ -9,9 +10,15 @@ pub mod Joining
 pub mod KnownWords
 pub mod Numbering
 pub mod Printed
+pub mod ReadSyntax
 pub mod Readings
 pub mod SmallCells
 pub mod Spelling
 pub mod Stored
+pub mod Syntax
+pub mod SyntaxChains
+pub mod SyntaxExamples
+pub mod SyntaxRead
 pub mod Turns
 pub mod WithinLimits
+pub mod Places

@@ -1,25 +1,21 @@
 -- What of its spelling plays no part in how a source is read. Each statement holds for all bytes behind and, where it says
 -- `cells`, for all cells of the statement held so far. Numbers of bytes: 10 newline, 32 space, 33 !, 37 %, 59 ;, 67 C.
 -- Comments in quotes are document 01's words.
-use Prim.Native.Nat.{ℕ, _+_, _<_, _≤_}
+use Prim.Native.Nat.{ℕ, _+_, _<_}
 use mathlib.Core.Path.{_≡_, refl, ap, sym, _∙_}
 use mathlib.Core.List.{List, [], _∷_, _++_, append-nil}
 use borrow.Author.Tests.{le-ltb, ne-eqb}
 use lib.ListN.{length}
 use Rattle.base.specs.Choice.{pick}
-use Rattle.sheet.proofs.Each.{Each}
 use Rattle.source.specs.declared.Mode.{Mode}
 use Rattle.source.specs.declared.Mode.the-variants.{Plain, Keyword, Comment}
 use Rattle.source.specs.Limits.{mostBytes, mostCells}
 use Rattle.source.specs.Cells.{capital, Turn, goesOn, ends, over, outside, turn, _then_, sourceEnd, onTurn, statementsFrom, statements}
 use Rattle.source.specs.Program.{nothingRead}
-use Rattle.source.specs.Source.{answer, program, notAllowed, allAllowed}
+use Rattle.source.specs.Source.{answer, program}
+use Rattle.source.specs.Spelling.{Outside, plain, keyword, CommentText, EndsComment, by-line, by-semicolon}
+use Rattle.source.specs.Spelling.{onward, placeFrom, Alike, Admitted}
 use Rattle.source.proofs.Turns.{plain-capital, keyword-capital, keeps-C, drops-C}
-
--- outside quotes and comments: behind `%` and letters, or not
-pub data Outside : Mode → Type 0 where
-  plain : Outside Plain
-  keyword : Outside Keyword
 
 -- ---- "Outside quotes a to z become capitals."
 
@@ -75,16 +71,7 @@ module _ (bs : List ℕ) where
 
 -- ---- "`!` where no cell of the statement is held yet starts a comment, which swallows all through the next `;` or newline."
 
--- the text of a comment has neither
-abbrev pub InComment : ℕ → Type 0
-InComment b = (b ≡ 10 → ⊥) × (b ≡ 59 → ⊥)
-
--- what ends it
-pub data EndsComment : ℕ → Type 0 where
-  by-line : EndsComment 10
-  by-semicolon : EndsComment 59
-
-swallowed : (text : List ℕ) → Each InComment text → (bs : List ℕ) → statementsFrom Comment [] (text ++ bs) ≡ statementsFrom Comment [] bs
+swallowed : (text : List ℕ) → CommentText text → (bs : List ℕ) → statementsFrom Comment [] (text ++ bs) ≡ statementsFrom Comment [] bs
 unfolding statementsFrom turn onTurn pick
 swallowed [] no-end bs = refl
 swallowed (b ∷ text) no-end bs =
@@ -101,7 +88,7 @@ module _ (bs : List ℕ) where
   comment-starts plain = refl
   comment-starts keyword = refl
 
-module _ {m : Mode} (o : Outside m) (text : List ℕ) (no-end : Each InComment text) where
+module _ {m : Mode} (o : Outside m) (text : List ℕ) (no-end : CommentText text) where
   pub comment : {e : ℕ} → EndsComment e → (bs : List ℕ) → statementsFrom m [] (33 ∷ text ++ e ∷ bs) ≡ statementsFrom Plain [] bs
   comment {e} end bs = comment-starts (text ++ e ∷ bs) o ∙ swallowed text no-end (e ∷ bs) ∙ comment-ends end bs
 
@@ -111,25 +98,6 @@ module _ {m : Mode} (o : Outside m) (text : List ℕ) (no-end : Each InComment t
   last-comment = comment-starts text o ∙ sym (ap (statementsFrom Comment []) (append-nil text)) ∙ swallowed text no-end []
 
 -- ---- anywhere in a source
-
--- where the reading stands behind some bytes; broken off where there are too many cells
-pub data Place : Type 0 where
-  holding : Mode → List ℕ → Place
-  broken : Place
-
-abbrev pub onward : Turn → (Mode → List ℕ → Place) → Place
-onward (goesOn m cells) rest = rest m cells
-onward (ends cells) rest = rest Plain []
-onward over rest = broken
-
-abbrev pub placeFrom : Mode → List ℕ → List ℕ → Place
-placeFrom m cells [] = holding m cells
-placeFrom m cells (b ∷ bs) = onward (turn m b cells) (λ n held. placeFrom n held bs)
-
--- two rests of a source that are read alike there
-abbrev pub Alike : Place → List ℕ → List ℕ → Type 0
-Alike (holding m cells) a b = statementsFrom m cells a ≡ statementsFrom m cells b
-Alike broken a b = Unit {0}
 
 alike-on :
     (t : Turn) (front a b : List ℕ)
@@ -155,11 +123,6 @@ pub anywhere : (front a b : List ℕ) → Alike (placeFrom Plain [] front) a b �
 anywhere front a b e = alike-from front a b Plain [] e
 
 -- ---- what is read alike is answered alike
-
--- "Source is 0 to 16,384 bytes; allowed bytes are 10 and 32 to 126."
-pub record Admitted (source : List ℕ) : Type 0 where
-  pub few : length source ≤ mostBytes
-  pub allowed : notAllowed 0 source ≡ allAllowed
 
 pub answered : (source : List ℕ) → Admitted source → answer source ≡ program nothingRead 0 (statements source)
 unfolding pick

@@ -2,6 +2,10 @@ pub mod Limits
 pub mod Cells
 pub mod Tokens
 pub mod Grammar
+pub mod Syntax
+pub mod Printed
 pub mod Program
 pub mod Source
 pub mod Memory
+pub mod Readings
+pub mod Spelling

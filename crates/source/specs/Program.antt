@@ -8,12 +8,9 @@ use lib.ListN.{length}
 use Rattle.base.specs.Choice.{pick}
 use Rattle.base.specs.Text.{bytes}
 use Rattle.order.specs.Limits.{mostVariables, mostTemporaries, mostOrders}
-use Rattle.sheet.specs.declared.Field.{Field}
-use Rattle.sheet.specs.declared.Field.the-variants.{Else, Then, Send, Neg, Not, Binary, If, Word, Constant, Set, Goto}
-use Rattle.sheet.specs.Sheet.{Instruction, Sheet, sheet}
-use Rattle.sheet.specs.Fields.{instructionFields}
+use Rattle.sheet.specs.Sheet.{Expression, word, constant, negated, inverted, binary, Simple, set, send, goto}
+use Rattle.sheet.specs.Sheet.{Instruction, simple, when, either, Sheet, sheet, retargetOne}
 use Rattle.sheet.specs.Translation.{ordersOfAll, instructionTemporaries}
-use Rattle.sheet.specs.ReadBack.{retargetOne}
 use Rattle.source.specs.declared.Token.{Token}
 use Rattle.source.specs.declared.Token.the-variants.{Name}
 use Rattle.source.specs.Limits.{greatestLabel, mostLabels}
@@ -76,22 +73,28 @@ lookedUp ms (name n) = Name (wordOf ms n)
 lookedUp ms (token t) = t
 
 -- "name unknown .. or SEND misused": words 0 and 1 are no variable's
-abbrev pub isKnown : Field → Bool
-isKnown Else = true
-isKnown Then = true
-isKnown Send = true
-isKnown Neg = true
-isKnown Not = true
-isKnown (Binary o) = true
-isKnown (If r) = true
-isKnown (Word w) = leb 2 w
-isKnown (Constant n) = true
-isKnown (Set w) = leb 2 w
-isKnown (Goto l) = true
+abbrev pub isKnown : ℕ → Bool
+isKnown w = leb 2 w
 
-unfoldable pub allKnown : List Field → Bool
-allKnown [] = true
-allKnown (f ∷ fs) = pick (isKnown f) (allKnown fs) false
+-- whether every name of an expression is a variable's
+unfoldable pub allKnown : Expression → Bool
+allKnown (word w) = isKnown w
+allKnown (constant n) = true
+allKnown (negated e) = allKnown e
+allKnown (inverted e) = allKnown e
+allKnown (binary o l r) = pick (allKnown l) (allKnown r) false
+
+abbrev pub knownSimple : Simple → Bool
+knownSimple (set w e) = pick (isKnown w) (allKnown e) false
+knownSimple (send e) = allKnown e
+knownSimple (goto l) = true
+
+-- whether every name of an instruction is a variable's
+abbrev pub known : Instruction → Bool
+known (simple u) = knownSimple u
+known (when r a b u) = pick (allKnown a) (pick (allKnown b) (knownSimple u) false) false
+known (either r a b u w) =
+    pick (allKnown a) (pick (allKnown b) (pick (knownSimple u) (knownSimple w) false) false) false
 
 -- ---- declarations
 
@@ -132,24 +135,20 @@ labelsSet s ls = map (λ l. label l s) ls
 
 -- "label 0 or over 9999, set twice": whether labels can be set behind others, before instruction s
 unfoldable pub canSet : ℕ → List Label → List ℕ → Bool
-canSet s set [] = true
-canSet s set (l ∷ ls) =
-    pick (isLabel l) (pick (eqb (numberOf set l) 0) (canSet s (set ++ label l s ∷ []) ls) false) false
+canSet s ms [] = true
+canSet s ms (l ∷ ls) =
+    pick (isLabel l) (pick (eqb (numberOf ms l) 0) (canSet s (ms ++ label l s ∷ []) ls) false) false
 
--- the labels that jumps lead to
-unfoldable pub jumpsIn : List Field → List ℕ
-jumpsIn [] = []
-jumpsIn (Else ∷ fs) = jumpsIn fs
-jumpsIn (Then ∷ fs) = jumpsIn fs
-jumpsIn (Send ∷ fs) = jumpsIn fs
-jumpsIn (Neg ∷ fs) = jumpsIn fs
-jumpsIn (Not ∷ fs) = jumpsIn fs
-jumpsIn (Binary o ∷ fs) = jumpsIn fs
-jumpsIn (If r ∷ fs) = jumpsIn fs
-jumpsIn (Word w ∷ fs) = jumpsIn fs
-jumpsIn (Constant n ∷ fs) = jumpsIn fs
-jumpsIn (Set w ∷ fs) = jumpsIn fs
-jumpsIn (Goto l ∷ fs) = l ∷ jumpsIn fs
+abbrev pub simpleJumps : Simple → List ℕ
+simpleJumps (set w e) = []
+simpleJumps (send e) = []
+simpleJumps (goto l) = l ∷ []
+
+-- the labels that the jumps of an instruction name
+unfoldable pub jumpsIn : Instruction → List ℕ
+jumpsIn (simple u) = simpleJumps u
+jumpsIn (when r a b u) = simpleJumps u
+jumpsIn (either r a b u w) = simpleJumps u ++ simpleJumps w
 
 unfoldable pub all : (ℕ → Bool) → List ℕ → Bool
 all test [] = true
@@ -198,9 +197,9 @@ labelling p k ls = withLabels p k ls (withFewLabels k (setting p ls) (further (s
 abbrev pub instructing : Program → ℕ → List ℕ → Instruction → Outcome
 instructing p k ls i =
     pick
-    (allKnown (instructionFields i))
+    (known i)
     (pick
-    (all isLabel (jumpsIn (instructionFields i)))
+    (all isLabel (jumpsIn i))
     (withLabels
     p
     k
@@ -220,7 +219,7 @@ isSet ls l = ltb 0 (numberOf ls l)
 
 unfoldable pub firstUnset : List Label → List Placed → Unset
 firstUnset ls [] = allSet
-firstUnset ls (placed k i ∷ is) = pick (all (isSet ls) (jumpsIn (instructionFields i))) (firstUnset ls is) (unset k)
+firstUnset ls (placed k i ∷ is) = pick (all (isSet ls) (jumpsIn i)) (firstUnset ls is) (unset k)
 
 -- "a label as the number of the instruction after it or one past the last"
 abbrev pub sheetOf : Program → Sheet

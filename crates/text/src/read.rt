@@ -1,8 +1,9 @@
 // Pieces of text: fixed strings and numbers, read at a place.
 ghost use mathlib.Core.Path.{_≡_};
-ghost use lib.ListN.{drop};
+ghost use Prim.Native.Nat.{_+_};
+ghost use lib.ListN.{length, drop};
 ghost use Rattle.text.specs.Pieces.{fixed, numeral, digits};
-ghost use Rattle.text.specs.Internal.{behind, numberFound};
+ghost use Rattle.text.specs.Internal.{behind, numberFound, PlaceIs, NumberPlace, NumberWithin};
 
 // The place behind what was looked for, or that it does not stand there.
 pub enum Place {
@@ -18,7 +19,8 @@ pub enum Numeral {
 
 // A fixed string.
 pub fn fixed_at(s: &[u8], at: usize, string: &[u8]) -> Place
-    ensures { λ r. ⌜ behind (now (s .entry)) r ≡ fixed (now (string .entry)) (drop at (now (s .entry))) ⌝ }
+    ensures read { λ r. ⌜ behind (now (s .entry)) r ≡ fixed (now (string .entry)) (drop at (now (s .entry))) ⌝ }
+    ensures place { λ r. ⌜ PlaceIs (at + length (now (string .entry))) r ⌝ }
 {
     let mut i = at;
     let mut k = 0;
@@ -37,7 +39,8 @@ pub fn fixed_at(s: &[u8], at: usize, string: &[u8]) -> Place
 
 // The digits of a number behind the first, and the byte that closes its field.
 fn digits_at(s: &[u8], at: usize, close: u8, first: u8) -> Numeral
-    ensures { λ r. ⌜ numberFound (now (s .entry)) r ≡ digits close first (drop at (now (s .entry))) ⌝ }
+    ensures read { λ r. ⌜ numberFound (now (s .entry)) r ≡ digits close first (drop at (now (s .entry))) ⌝ }
+    ensures within { λ r. ⌜ NumberWithin (length (now (s .entry))) r ⌝ }
 {
     let mut i = at;
     let mut v = first as u64;
@@ -66,7 +69,8 @@ fn digits_at(s: &[u8], at: usize, close: u8, first: u8) -> Numeral
 
 // A number and the byte that closes its field.
 pub fn numeral_at(s: &[u8], at: usize, close: u8) -> Numeral
-    ensures { λ r. ⌜ numberFound (now (s .entry)) r ≡ numeral close (drop at (now (s .entry))) ⌝ }
+    ensures read { λ r. ⌜ numberFound (now (s .entry)) r ≡ numeral close (drop at (now (s .entry))) ⌝ }
+    ensures place { λ r. ⌜ NumberPlace at r ⌝ }
 {
     if s.len() <= at {
         return Numeral::Missing;

@@ -1,16 +1,20 @@
 -- The turns of the loop over tokens, and what it leaves in the arrays.
 use Prim.Native.Nat.{ℕ, zero, suc, _+_, _-_, _*_, _/_, _%_, _<_, _≤_}
 use mathlib.Core.Path.{_≡_, refl, sym, ap, ap₂, _∙_}
+use mathlib.Core.Bool.{true, false}
 use mathlib.Core.List.{List, [], _∷_, _++_, append-nil, append-assoc}
 use native.Mathlib.Omega.{arith}
 use native.Mathlib.Nat.{add-zero}
-use borrow.Author.Tests.{ne-eqb}
+use borrow.Author.Tests.{ne-eqb, ltb-true, leb-true, lt-ltb, le-leb}
+use lib.Dec.{ltb, leb}
 use lib.ListN.{length, getD, take, drop, set, length-set, length-take, drop-of-length-le}
 use lib.Seq.{getD-set-same, getD-set-other}
 use Rattle.base.specs.Choice.{pick}
+use Rattle.base.proofs.Cases.{by-test, both-yes}
 use Rattle.base.proofs.Lists.{drop-more}
 use Rattle.source.specs.declared.Token.{Token}
 use Rattle.source.specs.declared.Statement.{Statement}
+use Rattle.source.specs.Limits.{mostCells}
 use Rattle.source.specs.Memory.{tokenKind, tokenCarried, lexemeOf, lexemesFrom, held}
 use Rattle.source.specs.Tokens.{Lexeme, name, token, One, one, wrong, lexeme, Lexed, lexed, refused, behind, onOne, lexemesIn, lexemes}
 use Rattle.source.proofs.Numbering.{token-again}
@@ -20,8 +24,8 @@ use Rattle.tokens_fixed.specs.Answers.{oneIn, Sound, Is}
 use Rattle.tokens.specs.declared.Stored.{Stored}
 use Rattle.tokens.specs.declared.Stored.the-variants.{At, Wrong as Refusal}
 use Rattle.tokens.specs.declared.Lexed.{Lexed as Answered}
-use Rattle.tokens.specs.declared.Lexed.the-variants.{Tokens, Refused}
-use Rattle.tokens.specs.Answers.{lexedIn, Room, Few}
+use Rattle.tokens.specs.declared.Lexed.the-variants.{Tokens, Refused, Unfit}
+use Rattle.tokens.specs.Answers.{Told, told, unfit, fit, lexedOf, Few}
 use Rattle.tokens.specs.Internal.{storedOf, Scanned}
 
 -- ---- what is stored is read back
@@ -106,13 +110,14 @@ one-more cells ks vs n k v h g =
 
 -- what holds before each token. At most as many tokens follow as there are cells without the tokens so far.
 pub record Scans (cells ks vs : List ℕ) (at n : ℕ) : Type 0 where
-  pub same : 256 ≤ length ks → 256 ≤ length vs
-      → allBehind (lexemesFrom 0 n cells ks vs) (lexemesIn (length cells - n) (drop at cells)) ≡ lexemes cells
+  pub same : allBehind (lexemesFrom 0 n cells ks vs) (lexemesIn (length cells - n) (drop at cells)) ≡ lexemes cells
+  pub room : 256 ≤ length ks
+  pub other : 256 ≤ length vs
   pub few : n ≤ length cells
   pub on : n ≤ at
 
-pub scans-first : (cells ks vs : List ℕ) → Scans cells ks vs 0 0
-scans-first cells ks vs = record { same = λ r t. none; few = omega arith; on = omega arith }
+pub scans-first : (cells ks vs : List ℕ) → 256 ≤ length ks → 256 ≤ length vs → Scans cells ks vs 0 0
+scans-first cells ks vs room other = record { same = none; room = room; other = other; few = omega arith; on = omega arith }
   where
     none : allBehind (lexemesFrom 0 0 cells ks vs) (lexemesIn (length cells - 0) (drop 0 cells)) ≡ lexemes cells
     none = let all : length cells - 0 ≡ length cells = omega arith in rw all (before-none (lexemes cells))
@@ -144,7 +149,9 @@ module _ (cells ks vs : List ℕ) (at n : ℕ) (few : length cells < 256) (scans
         let on : n ≤ at = scans .on in
         let further : at < q = stored-on at (length cells) a k v q (is .sound) e in
         record {
-          same = λ r t. more (rw (length-set ks n k) at r) (rw (length-set vs n v) at t);
+          same = more;
+          room = rw (length-set ks n k) (scans .room);
+          other = rw (length-set vs n v) (scans .other);
           few = omega arith;
           on = omega arith;
         }
@@ -153,17 +160,18 @@ module _ (cells ks vs : List ℕ) (at n : ℕ) (few : length cells < 256) (scans
             ≡ behind (lexemeOf cells k v) (lexemesIn (length cells - (n + 1)) (drop q cells))
         token-here = unfold onOne in refl
 
-        more : 256 ≤ length ks → 256 ≤ length vs
-            → allBehind (lexemesFrom 0 (n + 1) cells (set ks n k) (set vs n v)) (lexemesIn (length cells - (n + 1)) (drop q cells)) ≡ lexemes cells
-        more r t =
+        more : allBehind (lexemesFrom 0 (n + 1) cells (set ks n k) (set vs n v)) (lexemesIn (length cells - (n + 1)) (drop q cells)) ≡ lexemes cells
+        more =
             let on : n ≤ at = scans .on in
+            let room : 256 ≤ length ks = scans .room in
+            let other : 256 ≤ length vs = scans .other in
             ap (λ xs. allBehind xs (lexemesIn (length cells - (n + 1)) (drop q cells))) (one-more cells ks vs n k v (omega arith) (omega arith))
             ∙ one-behind (lexemesFrom 0 n cells ks vs) (lexemeOf cells k v) (lexemesIn (length cells - (n + 1)) (drop q cells))
             ∙ ap (allBehind (lexemesFrom 0 n cells ks vs)) (sym (here ∙ ap (λ s. onOne (storedIn cells s) (λ rest. lexemesIn (length cells - (n + 1)) rest)) e ∙ token-here))
-            ∙ scans .same r t
+            ∙ scans .same
 
     pub scans-wrong : (m : ℕ) → storedOf at a ≡ Refusal m → Scanned cells ks vs (Refused m)
-    scans-wrong m e = record { same = λ r t. wrong-here ∙ scans .same r t; few = tt }
+    scans-wrong m e = record { same = ap told (wrong-here ∙ scans .same); few = tt }
       where
         refused-here : onOne (storedIn cells (Refusal m)) (λ rest. lexemesIn (length cells - (n + 1)) rest) ≡ refused m
         refused-here = unfold onOne in refl
@@ -175,7 +183,7 @@ module _ (cells ks vs : List ℕ) (at n : ℕ) (few : length cells < 256) (scans
             (here ∙ ap (λ s. onOne (storedIn cells s) (λ rest. lexemesIn (length cells - (n + 1)) rest)) e ∙ refused-here))
 
   pub scans-over : length cells ≤ at → Scanned cells ks vs (Tokens n)
-  scans-over h = record { same = λ r t. sym all ∙ scans .same r t; few = scans .few }
+  scans-over h = record { same = ap told (sym all ∙ scans .same); few = scans .few }
     where
       all : allBehind (lexemesFrom 0 n cells ks vs) (lexemesIn (length cells - n) (drop at cells)) ≡ lexed (lexemesFrom 0 n cells ks vs)
       all =
@@ -184,17 +192,48 @@ module _ (cells ks vs : List ℕ) (at n : ℕ) (few : length cells < 256) (scans
 
 -- ---- the public contract
 
+abbrev caseNumber : Told → ℕ
+caseNumber (told l) = 0
+caseNumber unfit = 1
+
+-- a statement and arrays that are fit
+pub record Fits (n room other : ℕ) : Type 0 where
+  pub mark : n < mostCells
+  pub kinds : mostCells ≤ room
+  pub values : mostCells ≤ other
+
+pub fits : (n room other : ℕ) → fit n room other ≡ true → Fits n room other
+fits n room other e =
+    let one = both-yes (ltb n mostCells) (pick (leb mostCells room) (leb mostCells other) false) e in
+    let two = both-yes (leb mostCells room) (leb mostCells other) (one .1) in
+    record { mark = ltb-true n mostCells (one .0); kinds = leb-true mostCells room (two .0); values = leb-true mostCells other (two .1) }
+
 pub front-few : (n : ℕ) (cells : List ℕ) → n < 256 → length (take n cells) < 256
 front-few n cells few = let e = length-take n cells in omega (arith, e, few)
 
--- the answer of a scan, for the public contract
-pub read-in : (s : Statement) (ks vs ks′ vs′ : List ℕ) (r : Answered) → Scanned (held s) ks′ vs′ r → length ks′ ≡ length ks → length vs′ ≡ length vs
-    → Room s ks vs → lexedIn (held s) r ks′ vs′ ≡ lexemes (held s)
-read-in s ks vs ks′ vs′ r scanned e f room =
-    let some : 256 ≤ length ks = room .kinds in
-    let more : 256 ≤ length vs = room .values in
-    scanned .same (omega arith) (omega arith)
+module _ (s : Statement) (ks vs : List ℕ) where
+  pub fit-told : fit (s .length) (length ks) (length vs) ≡ true → told (lexemes (held s)) ≡ lexedOf s ks vs
+  unfolding lexedOf pick
+  fit-told e = rw e refl
+
+  pub unfit-told : fit (s .length) (length ks) (length vs) ≡ false → unfit ≡ lexedOf s ks vs
+  unfolding lexedOf pick
+  unfit-told e = rw e refl
+
+  -- a statement and arrays that are fit
+  pub lexed-fit : s .length < mostCells → mostCells ≤ length ks → mostCells ≤ length vs → lexedOf s ks vs ≡ told (lexemes (held s))
+  unfolding lexedOf pick
+  lexed-fit h g f = rw (lt-ltb (s .length) mostCells h, le-leb mostCells (length ks) g, le-leb mostCells (length vs) f) refl
+
+  -- what is told of a statement is told of one that an end mark fits behind
+  pub told-short : (l : Lexed) → told l ≡ lexedOf s ks vs → s .length < mostCells
+  unfolding lexedOf pick
+  told-short l e =
+      by-test (fit (s .length) (length ks) (length vs))
+      (λ t. fits (s .length) (length ks) (length vs) t .mark)
+      (λ t. let z : _≡_ {A = ℕ} 0 1 = ap caseNumber (rw t at e) in absurd (omega arith))
 
 pub few-of : (s : Statement) (ks vs : List ℕ) (r : Answered) → Scanned (held s) ks vs r → Few s r
 few-of s ks vs (Tokens n) scanned = scanned .few
 few-of s ks vs (Refused k) scanned = tt
+few-of s ks vs Unfit scanned = tt

@@ -10,8 +10,8 @@ use Rattle.tokens_fixed.specs.declared.One.the-variants.{Token as TokenAt, Name
 use Rattle.tokens.specs.declared.Stored.{Stored}
 use Rattle.tokens.specs.declared.Stored.the-variants.{At, Wrong as Refusal}
 use Rattle.tokens.specs.declared.Lexed.{Lexed}
-use Rattle.tokens.specs.declared.Lexed.the-variants.{Tokens, Refused}
-use Rattle.tokens.specs.Answers.{lexedIn}
+use Rattle.tokens.specs.declared.Lexed.the-variants.{Tokens, Refused, Unfit}
+use Rattle.tokens.specs.Answers.{told, lexedIn}
 
 -- ---- a name
 
@@ -32,7 +32,8 @@ storedOf at (Wrong n) = Refusal n
 abbrev pub FewOf : List ℕ → Lexed → Type 0
 FewOf cells (Tokens n) = n ≤ length cells
 FewOf cells (Refused k) = Unit {0}
+FewOf cells Unfit = Unit {0}
 
 pub record Scanned (cells ks vs : List ℕ) (r : Lexed) : Type 0 where
-  pub same : 256 ≤ length ks → 256 ≤ length vs → lexedIn cells r ks vs ≡ lexemes cells
+  pub same : lexedIn cells r ks vs ≡ told (lexemes cells)
   pub few : FewOf cells r

@@ -6,19 +6,19 @@ use source::MOST_CELLS;
 use source::Statement;
 use tokens_fixed::One;
 ghost use mathlib.Core.Path.{_≡_};
-ghost use Prim.Native.Nat.{_<_};
+ghost use Prim.Native.Nat.{_<_, _≤_};
 ghost use lib.ListN.{length};
 ghost use Rattle.source.specs.Limits.{mostCells};
 ghost use Rattle.source.specs.Memory.{held};
-ghost use Rattle.source.specs.Tokens.{lexemes};
 ghost use Rattle.tokens_fixed.specs.Answers.{Sound};
-ghost use Rattle.tokens.specs.Answers.{lexedIn, Room, Few};
+ghost use Rattle.tokens.specs.Answers.{lexedIn, fit, lexedOf, Few};
 ghost use Rattle.tokens.specs.Internal.{storedOf, Scanned};
 
-// The number of tokens, or the number of the refusal: 5 or 6.
+// The number of tokens; the number of the refusal: 5 or 6; or that the statement or the arrays are not fit for it.
 pub enum Lexed {
     Tokens(usize),
     Refused(u32),
+    Unfit,
 }
 
 // What an array holds of a token: its kind, what it carries, and the place of the cell behind it; or a refusal.
@@ -41,7 +41,7 @@ fn stored_of(one: One, at: usize) -> Stored
 
 // All tokens of cells, put into two arrays.
 fn scan(cells: &[u8], kinds: &mut [u8], values: &mut [u32]) -> Lexed
-    requires { ⌜ length (now cells) < mostCells ⌝ }
+    requires { ⌜ (length (now cells) < mostCells) × (mostCells ≤ length (now kinds)) × (mostCells ≤ length (now values)) ⌝ }
     ensures { λ r. ⌜ Scanned (now (cells .entry)) (now (kinds .exit)) (now (values .exit)) r ⌝ }
 {
     let mut at = 0;
@@ -61,15 +61,28 @@ fn scan(cells: &[u8], kinds: &mut [u8], values: &mut [u32]) -> Lexed
     Lexed::Tokens(n)
 }
 
-// The tokens of a statement. One that no end mark fits behind has more than 256 cells.
+// Whether an end mark fits behind n cells, and two arrays have a place for each cell that a statement can hold.
+fn is_fit(n: usize, room: usize, other: usize) -> bool
+    ensures { λ r. ⌜ r ≡ fit n room other ⌝ }
+{
+    if MOST_CELLS <= n {
+        return false;
+    }
+    if room < MOST_CELLS {
+        return false;
+    }
+    MOST_CELLS <= other
+}
+
+// The tokens of a statement. Free is what the arrays hold behind them, and all that they hold where there are none.
 pub fn tokens(s: Statement, kinds: &mut [u8], values: &mut [u32]) -> Lexed
-    ensures read { λ r. ⌜ (Room s (now (kinds .entry)) (now (values .entry))
-        → lexedIn (held s) r (now (kinds .exit)) (now (values .exit)) ≡ lexemes (held s)) ⌝ }
+    ensures read { λ r. ⌜ lexedIn (held s) r (now (kinds .exit)) (now (values .exit)) ≡ lexedOf s (now (kinds .entry)) (now (values .entry)) ⌝ }
     ensures few { λ r. ⌜ Few s r ⌝ }
+    ensures kept { λ _. ⌜ (length (now (kinds .exit)) ≡ length (now (kinds .entry))) × (length (now (values .exit)) ≡ length (now (values .entry))) ⌝ }
 {
     let n = s.length;
-    if MOST_CELLS <= n {
-        return Lexed::Refused(4);
+    if is_fit(n, kinds.len(), values.len()) {
+        return scan(part(&s.cells, 0, n), kinds, values);
     }
-    scan(part(&s.cells, 0, n), kinds, values)
+    Lexed::Unfit
 }

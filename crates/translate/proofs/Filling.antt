@@ -6,7 +6,8 @@ use native.Mathlib.Omega.{arith}
 use lib.ListN.{length, getD}
 use lib.Seq.{sets}
 use Rattle.order.specs.declared.Order.the-variants.{Stop}
-use Rattle.order.specs.Order.{number, operand}
+use Rattle.order.specs.Order.{operand}
+use Rattle.order.specs.Memory.{number}
 use Rattle.sheet.specs.declared.Field.{Field}
 use Rattle.sheet.specs.Sheet.{Instruction}
 use Rattle.sheet.specs.Fields.{fieldsOfAll}

@@ -10,7 +10,8 @@ use Rattle.base.proofs.Cases.{pick-yes, pick-no}
 use Rattle.base.proofs.Lists.{getD-sets}
 use Rattle.order.specs.declared.Order.{Order}
 use Rattle.order.specs.declared.Order.the-variants.{Jump, Stop}
-use Rattle.order.specs.Order.{number, operand}
+use Rattle.order.specs.Order.{operand}
+use Rattle.order.specs.Memory.{number}
 use Rattle.order.specs.Limits.{mostVariables, mostTemporaries, mostOrders}
 use Rattle.sheet.specs.Sheet.{Simple, set, send, goto, Instruction, simple, when, either, Sheet, sheet}
 use Rattle.sheet.specs.Within.{Leads, SimpleFormed, InstructionFormed, AllFormed, Formed}
@@ -23,7 +24,7 @@ use Rattle.translate_size.specs.Internal.{left, firstOrders, Total, Totals}
 use Rattle.translate_size.proofs.Places.{left-length}
 use Rattle.translate_size.proofs.Measured.{some-instruction}
 use Rattle.translate_size.proofs.Lengths.{translation-length, instruction-twice, fields-twice}
-use Rattle.translate.specs.Answers.{OfSheet, withinLimits, whole, over, answerFor, filledFor}
+use Rattle.translate.specs.Answers.{OfSheet, withinLimits, whole, refusal, answerFor, filledFor}
 use Rattle.translate.specs.Internal.{HoldsAll}
 use Rattle.translate.proofs.Within.{temporaries-over, orders-over, none-over}
 
@@ -149,10 +150,10 @@ module _ (ks vs : List ℕ) (n v : ℕ) where
   pub refused :
       ((is : List Instruction) → fieldsFrom 0 n ks vs ≡ fieldsOfAll is → withinLimits (sheet v is) ≡ false)
       → (ns os : List ℕ)
-      → OfSheet ks vs n v (λ s. over ≡ answerFor s)
+      → OfSheet ks vs n v (λ s. refusal 11 ≡ answerFor s)
       × (OfSheet ks vs n v (λ s. ns ≡ filledFor s number ns) × OfSheet ks vs n v (λ s. os ≡ filledFor s operand os))
   refused why ns os = (
-    of-sheet (λ s. over ≡ answerFor s) (λ is g e. pick-no _ _ _ _ (why is e) refl),
+    of-sheet (λ s. refusal 11 ≡ answerFor s) (λ is g e. pick-no _ _ _ _ (why is e) refl),
     (
       of-sheet (λ s. ns ≡ filledFor s number ns) (λ is g e. pick-no _ _ _ _ (why is e) refl),
       of-sheet (λ s. os ≡ filledFor s operand os) (λ is g e. pick-no _ _ _ _ (why is e) refl),

@@ -32,17 +32,18 @@ withinLimits s =
     (pick (leb (sheetTemporaries s) mostTemporaries) (leb (length (translation s)) mostOrders) false)
     false
 
--- T and N, or that a limit is passed
+-- T and N, or document 01's number of the refusal, whose place is a statement of the source: a sheet has none
 pub data Answer : Type 0 where
   whole : ℕ → ℕ → Answer
-  over : Answer
+  refusal : ℕ → Answer
 
+-- 11 "over 64 variables, 64 set labels, 32 temporaries, 1,024 orders with STOP"
 abbrev pub translated : Translated → Answer
 translated (Whole t n) = whole t n
-translated Over = over
+translated Over = refusal 11
 
 abbrev pub answerFor : Sheet → Answer
-answerFor s = pick (withinLimits s) (whole (sheetTemporaries s) (length (translation s))) over
+answerFor s = pick (withinLimits s) (whole (sheetTemporaries s) (length (translation s))) (refusal 11)
 
 -- an array afterwards, f being what it holds of an order
 abbrev pub filledFor : Sheet → (Order → ℕ) → List ℕ → List ℕ

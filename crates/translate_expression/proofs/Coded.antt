@@ -11,7 +11,8 @@ use Rattle.order.specs.declared.Operation.{Operation}
 use Rattle.order.specs.declared.Operation.the-variants.{Load}
 use Rattle.order.specs.declared.Order.{Order}
 use Rattle.order.specs.declared.Order.the-variants.{Word, Store}
-use Rattle.order.specs.Order.{number, operand as operandOf}
+use Rattle.order.specs.Order.{operand as operandOf}
+use Rattle.order.specs.Memory.{number}
 use Rattle.sheet.specs.declared.Field.{Field}
 use Rattle.sheet.specs.Sheet.{Expression, word, constant, negated, inverted, binary, workedOut, operand}
 use Rattle.sheet.specs.Fields.{expressionFields}

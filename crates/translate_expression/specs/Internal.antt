@@ -7,7 +7,8 @@ use Rattle.order.specs.declared.Operation.{Operation}
 use Rattle.order.specs.declared.Operation.the-variants.{Load}
 use Rattle.order.specs.declared.Order.{Order}
 use Rattle.order.specs.declared.Order.the-variants.{Word, Store}
-use Rattle.order.specs.Order.{number, operand}
+use Rattle.order.specs.Order.{operand}
+use Rattle.order.specs.Memory.{number}
 use Rattle.sheet.specs.declared.Field.{Field}
 use Rattle.sheet.specs.Translation.{orders}
 use Rattle.sheet_field.specs.Memory.{mostFields}

@@ -12,13 +12,14 @@ use Rattle.base.specs.Choice.{pick}
 use Rattle.base.specs.Front.{found, missing}
 use Rattle.base.proofs.Cases.{by-test}
 use Rattle.order.specs.declared.Order.{Order}
-use Rattle.order.specs.Order.{number, operand, orderOf}
+use Rattle.order.specs.Order.{operand}
+use Rattle.order.specs.Memory.{number, orderOf}
 use Rattle.order.proofs.Numbers.{order-again}
 use Rattle.sheet.specs.declared.Field.{Field}
 use Rattle.sheet.specs.ReadBack.{Back, expecting}
+use Rattle.sheet.specs.Temporaries.{largestStored}
 use Rattle.untranslate_look.specs.Internal.{takenAt, held, push, Step, went, stuck}
 use Rattle.untranslate_expression.specs.Internal.{onPlace}
-use Rattle.untranslate.specs.Internal.{mostUsed}
 
 -- the k orders from start on, the last first
 unfoldable pub backward : (ℕ → Order) → ℕ → ℕ → List Order
@@ -43,7 +44,7 @@ pub record Took (at : ℕ → Order) (v start size used : ℕ) (fs gs hs : List 
   pub written : hs ≡ fs ++ gs
   pub filled : out₁ + length fs ≡ out
   pub few : length fs ≤ 2 * size + spare
-  pub uses : mostUsed v (backward at start k) ≡ max used (mostUsed v (backward at start k₁))
+  pub uses : largestStored v (backward at start k) ≡ max used (largestStored v (backward at start k₁))
 
 -- A reading of A, of which fs are the fields, size the number of its orders, used the temporaries up to the last one used,
 -- and Also what else is known

@@ -25,6 +25,8 @@ use Rattle.sheet.specs.Fields.{expressionFields}
 use Rattle.sheet.specs.Translation.{operation, temporary, joined, code, joinedTemporaries, temporaries}
 use Rattle.sheet.specs.ReadBack.{Back, onBack, expecting, Operands, operands, isVariable, isWorkedOut}
 use Rattle.sheet.specs.ReadBack.{plainOperands, keptOperands, wordOperands, byOperation, asBinary, lastOrder, expressionBack}
+use Rattle.sheet.specs.Temporaries.{temporaryOf, storedTo, largestStored}
+use Rattle.sheet.proofs.Temporaries.{raised, raised-none, raised-both}
 use Rattle.untranslate_look.specs.declared.node.Right.the-variants.{Plain, Kept}
 use Rattle.untranslate_look.specs.declared.node.Node.{Node}
 use Rattle.untranslate_look.specs.declared.node.Use.{Use}
@@ -32,8 +34,7 @@ use Rattle.untranslate_look.specs.declared.node.Use.the-variants.{Loads, Joins,
 use Rattle.untranslate_look.specs.Internal.{takenAt, Held, held, push, Step, went, stuck, onStep, pushed, useOf, rightWord}
 use Rattle.untranslate_look.specs.Internal.{wordNode, numberNode, nodeOf, isLeaf, leafAt}
 use Rattle.untranslate_expression.specs.Internal.{onPlace, keptRead, rightRead, operandsRead, nodeRead, expressionRead}
-use Rattle.untranslate.specs.Internal.{temporaryOf, usedBy, mostUsed}
-use Rattle.untranslate.proofs.Temporaries.{raised, raised-none, raised-both, kept-uses}
+use Rattle.untranslate.proofs.Temporaries.{kept-uses}
 use Rattle.untranslate.proofs.Agreement.{backward, push-room, Took, Agrees, neither, both, agree-expecting}
 
 -- ---- two operands: their fields, and their orders without the last one
@@ -136,7 +137,7 @@ module _ (at : ℕ → Order) (v start all : ℕ) where
                   let f = t .few in
                   let c = es (length (code v d l)) in
                   omega (arith, n, f, c);
-              uses = t .uses ∙ ap (λ n. max (raised d n) (mostUsed v (backward at start k₁))) (sym (et (temporaries l)));
+              uses = t .uses ∙ ap (λ n. max (raised d n) (largestStored v (backward at start k₁))) (sym (et (temporaries l)));
             })
 
     -- a right operand that was kept, behind a left one
@@ -151,17 +152,17 @@ module _ (at : ℕ → Order) (v start all : ℕ) where
       kept-used : (k₁ k₂ k₃ k₄ k₅ l r : ℕ)
           → k ≡ suc k₁ → at (start + k₁) ≡ Word Load (temporary v d)
           → k₁ ≡ suc k₂ → at (start + k₂) ≡ Store (temporary v (suc d))
-          → mostUsed v (backward at start k₂) ≡ max r (mostUsed v (backward at start k₃))
+          → largestStored v (backward at start k₂) ≡ max r (largestStored v (backward at start k₃))
           → k₃ ≡ suc k₄ → at (start + k₄) ≡ Store (temporary v d)
-          → mostUsed v (backward at start k₄) ≡ max l (mostUsed v (backward at start k₅))
-          → mostUsed v (backward at start k) ≡ max (max l (max (d + 2) r)) (mostUsed v (backward at start k₅))
-      unfolding mostUsed backward
+          → largestStored v (backward at start k₄) ≡ max l (largestStored v (backward at start k₅))
+          → largestStored v (backward at start k) ≡ max (max l (max (d + 2) r)) (largestStored v (backward at start k₅))
+      unfolding largestStored backward
       kept-used k₁ k₂ k₃ k₄ k₅ l r e₁ o₁ e₂ o₂ t e₄ o₄ u =
           let w₁ : temporaryOf v (temporary v (suc d)) ≡ d + 2 = omega arith in
           let w₄ : temporaryOf v (temporary v d) ≡ d + 1 = omega arith in
           rw (e₁, o₁, e₂, o₂, w₁)
-          (kept-uses d l r (mostUsed v (backward at start k₅))
-          (mostUsed v (backward at start k₂)) (mostUsed v (backward at start k₃)) (mostUsed v (backward at start k₄))
+          (kept-uses d l r (largestStored v (backward at start k₅))
+          (largestStored v (backward at start k₂)) (largestStored v (backward at start k₃)) (largestStored v (backward at start k₄))
           t
           (rw (e₄, o₄, w₄) refl)
           u)
@@ -212,7 +213,7 @@ module _ (at : ℕ → Order) (v start all : ℕ) where
                 uses =
                     rw worked
                     (kept-used k₁ k₂ k₃ k₄ k₅ (raised d (temporaries l)) (raised (suc d) (temporaries right)) e₁ o₁ e₂ o₂
-                    (t .uses) e₄ o₄ (u .uses) ∙ ap (λ n. max n (mostUsed v (backward at start k₅)))
+                    (t .uses) e₄ o₄ (u .uses) ∙ ap (λ n. max n (largestStored v (backward at start k₅)))
                     (sym (raised-both d (temporaries l) (temporaries right))));
               })
 
@@ -300,7 +301,7 @@ module _ (at : ℕ → Order) (v start all : ℕ) where
 
       -- what an operator makes of its operands
       over-agrees : (o : Operator) (f : Order) (s : Step) (b : Back Operands)
-          → at (start + k) ≡ f → usedBy v f ≡ 0 → leafAt at (v + 2) start (start + suc k) ≡ false
+          → at (start + k) ≡ f → storedTo v f ≡ 0 → leafAt at (v + 2) start (start + suc k) ≡ false
           → TwoAgrees d k out gs s b
           → ExpressionAgrees d (suc k) out gs (pushed (Binary o) s) (asBinary o b)
       unfolding onStep onFront
@@ -330,15 +331,15 @@ module _ (at : ℕ → Order) (v start all : ℕ) where
           fields : Binary o ∷ hs ≡ expressionFields (binary o l r) ++ gs
           fields = unfold expressionFields in ap (λ l. Binary o ∷ l) (t .written)
 
-          used : mostUsed v (backward at start (suc k)) ≡ max (raised d (temporaries (binary o l r)))
-              (mostUsed v (backward at start k₁))
-          used = unfold temporaries in unfold mostUsed in unfold backward in rw (of, uf) (omega (arith, t .uses))
+          used : largestStored v (backward at start (suc k)) ≡ max (raised d (temporaries (binary o l r)))
+              (largestStored v (backward at start k₁))
+          used = unfold temporaries in unfold largestStored in unfold backward in rw (of, uf) (omega (arith, t .uses))
 
     -- the same with the order that is read first, of suc k
     module _ (d k out : ℕ) (gs : List Field) (h : 2 * suc k ≤ out) (m : out ≤ all) where
       leaf-agrees : (e : Expression) (x : Field) (f : Order)
           → expressionFields e ≡ x ∷ [] → length (code v d e) ≡ 1 → temporaries e ≡ 0 → isPlain (operand e) ≡ true
-          → at (start + k) ≡ f → usedBy v f ≡ 0 → leafAt at (v + 2) start (start + suc k) ≡ true
+          → at (start + k) ≡ f → storedTo v f ≡ 0 → leafAt at (v + 2) start (start + suc k) ≡ true
           → ExpressionAgrees d (suc k) out gs (went (start + k) (push x (held out all all gs)))
           (found e (backward at start k))
       leaf-agrees e x f ef ec et ep of uf lf = go out h m
@@ -356,7 +357,7 @@ module _ (at : ℕ → Order) (v start all : ℕ) where
                 written = ap (λ fs. fs ++ gs) (sym ef);
                 filled = omega (arith, n);
                 few = omega (arith, n, ec);
-                uses = unfold mostUsed in unfold backward in rw (of, uf, et, raised-none d 0 refl) refl;
+                uses = unfold largestStored in unfold backward in rw (of, uf, et, raised-none d 0 refl) refl;
               }))
 
       unary-agrees : (c : Expression → Expression) (x : Field) (f : Order) (s : Step) (b : Back Expression)
@@ -364,7 +365,7 @@ module _ (at : ℕ → Order) (v start all : ℕ) where
           → ((e : Expression) → length (code v d (c e)) ≡ length (code v d e) + 1)
           → ((e : Expression) → temporaries (c e) ≡ temporaries e)
           → ((e : Expression) → operand (c e) ≡ workedOut)
-          → at (start + k) ≡ f → usedBy v f ≡ 0 → leafAt at (v + 2) start (start + suc k) ≡ false
+          → at (start + k) ≡ f → storedTo v f ≡ 0 → leafAt at (v + 2) start (start + suc k) ≡ false
           → ExpressionAgrees d k out gs s b
           → ExpressionAgrees d (suc k) out gs (pushed x s) (onBack b (λ e rest. found (c e) rest))
       unfolding onStep onFront
@@ -384,7 +385,7 @@ module _ (at : ℕ → Order) (v start all : ℕ) where
             written = ap (λ l. x ∷ l) (t .written) ∙ ap (λ fs. fs ++ gs) (sym (ef e));
             filled = omega (arith, g, len);
             few = omega (arith, n, len, size);
-            uses = unfold mostUsed in unfold backward in rw (of, uf, et e) (omega (arith, t .uses));
+            uses = unfold largestStored in unfold backward in rw (of, uf, et e) (omega (arith, t .uses));
           }))
 
       abbrev NodeAgrees : Node → Back Expression → Type 0

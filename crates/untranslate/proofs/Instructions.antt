@@ -15,13 +15,14 @@ use Rattle.word.specs.declared.Relation.{Relation}
 use Rattle.order.specs.declared.Order.{Order}
 use Rattle.order.specs.declared.Order.the-variants.{Word, Number, Store, Neg, Not, Jump, Branch, Send, Stop}
 use Rattle.sheet.specs.declared.Field.the-variants.{Else, Then, If, Set}
-use Rattle.sheet.specs.Sheet.{Expression, Simple, Instruction, simple, when, either}
+use Rattle.sheet.specs.Sheet.{Expression, Simple, Instruction, simple, when, either, retarget, retargetOne}
 use Rattle.sheet.specs.Fields.{expressionFields, instructionFields}
 use Rattle.sheet.specs.Translation.{opposite, simpleCode, comparisonCode, orders, simpleTemporaries, comparisonTemporaries}
 use Rattle.sheet.specs.Translation.{instructionTemporaries}
 use Rattle.sheet.specs.ReadBack.{Back, onBack, nothingLeft, Operands, operands, comparisonBack, Cut, cutFrom}
 use Rattle.sheet.specs.ReadBack.{simpleEnd, simpleAt, isVariable, isHere, jumpsTo, elseAt, choiceAt, asSimple}
-use Rattle.sheet.specs.ReadBack.{instructionEnd, instructionCut, instructionAt, retarget, retargetOne, leads, leadsOne}
+use Rattle.sheet.specs.ReadBack.{instructionEnd, instructionCut, instructionAt, leads, leadsOne}
+use Rattle.sheet.specs.Temporaries.{largestStored}
 use Rattle.untranslate_look.specs.declared.orders.Place.{Place}
 use Rattle.untranslate_look.specs.declared.orders.Place.the-variants.{At, Nowhere}
 use Rattle.untranslate_look.specs.Internal.{Held, push, Step, stuck, onStep, pushed}
@@ -33,7 +34,6 @@ use Rattle.untranslate_shape.specs.Internal.{scanFrom, endingOf, simpleEnding, 
 use Rattle.untranslate_shape.specs.Internal.{elseShape, choiceShape, endingShape, shapeFrom, shapeAt, shapePast}
 use Rattle.untranslate_instruction.specs.Internal.{simpleRead, branchRead, conditionRead, choiceRead, eitherRead}
 use Rattle.untranslate_instruction.specs.Internal.{instructionRead}
-use Rattle.untranslate.specs.Internal.{mostUsed}
 use Rattle.untranslate.proofs.Agreement.{backward}
 use Rattle.untranslate.proofs.Fields.{Answer, wrote, refused, inFront, Does, does-same, does-around, does-then}
 use Rattle.untranslate.proofs.Fields.{does-closed}
@@ -52,7 +52,7 @@ Known at v p j k missing = Unit {0}
 Known at v p j k (found u rest) =
     (rest ≡ forward at (p + suc j) k)
     × (length (simpleCode v (λ s. 0) u) ≡ suc j)
-    × (mostUsed v (forward at p (suc j + k)) ≡ max (simpleTemporaries u) (mostUsed v (forward at (p + suc j) k)))
+    × (largestStored v (forward at p (suc j + k)) ≡ max (simpleTemporaries u) (largestStored v (forward at (p + suc j) k)))
 
 -- it takes suc j of the orders from p to before n, and k are left
 record Part (at : ℕ → Order) (v p n j k : ℕ) (b : Back Simple) : Type 0 where
@@ -82,7 +82,7 @@ pub data InstructionPart (at : ℕ → Order) (v p n : ℕ) : Shape → Back Ins
   whole : (shape : Shape) (i : Instruction) (j k : ℕ) → shapePast shape ≡ At (p + suc j) → p + suc j + k ≡ n
       → ((all : ℕ) (to : ℕ → ℕ) → Does all p (p + suc j) (instructionRead at (v + 2) to p shape) (answerOne to i))
       → orders v i ≡ suc j
-      → mostUsed v (forward at p (suc j + k)) ≡ max (instructionTemporaries i) (mostUsed v (forward at (p + suc j) k))
+      → largestStored v (forward at p (suc j + k)) ≡ max (instructionTemporaries i) (largestStored v (forward at (p + suc j) k))
       → InstructionPart at v p n shape (found i (forward at (p + suc j) k))
 
 abbrev asShape : Place → Shape
@@ -344,9 +344,9 @@ module _ (at : ℕ → Order) (v p n j : ℕ) (q : Relation) (a : ℕ) (of : at 
           let less : suc (first + suc j₁) - 1 ≡ first + suc j₁ = omega arith in
           rw (ne-eqb (suc (first + suc j₁)) 0 some, less) refl
 
-  used-before : (k t : ℕ) → mostUsed v (backward at p j) ≡ t
-      → mostUsed v (forward at p (suc j + k)) ≡ max t (mostUsed v (forward at first k))
-  unfolding mostUsed backward
+  used-before : (k t : ℕ) → largestStored v (backward at p j) ≡ t
+      → largestStored v (forward at p (suc j + k)) ≡ max t (largestStored v (forward at first k))
+  unfolding largestStored backward
   used-before k t e = used-split at v p (suc j) k ∙ rw (of, e) (omega arith)
 
   -- where the comparison is not read nothing is
@@ -370,7 +370,7 @@ module _ (at : ℕ → Order) (v p n j : ℕ) (q : Relation) (a : ℕ) (of : at 
   module _ (l r : Expression)
       (d : (all : ℕ) → Does all p (p + j) (comparisonRead at (v + 2) p (p + j))
       (wrote (expressionFields l ++ expressionFields r)))
-      (size : length (comparisonCode v l r) ≡ j) (used : mostUsed v (backward at p j) ≡ comparisonTemporaries l r) where
+      (size : length (comparisonCode v l r) ≡ j) (used : largestStored v (backward at p j) ≡ comparisonTemporaries l r) where
     when-size : (s : Simple) (j₁ : ℕ) → length (simpleCode v (λ s. 0) s) ≡ suc j₁
         → orders v (when (opposite q) l r s) ≡ suc (j + suc j₁)
     when-size s j₁ e = simp length-append (omega (arith, e, size))
@@ -381,36 +381,36 @@ module _ (at : ℕ → Order) (v p n j : ℕ) (q : Relation) (a : ℕ) (of : at 
     either-size s w j₁ j₂ e e₂ = simp length-append (omega (arith, e, e₂, size))
 
     when-used : (s : Simple) (j₁ k₁ : ℕ)
-        → mostUsed v (forward at first (suc j₁ + k₁)) ≡ max (simpleTemporaries s)
-        (mostUsed v (forward at (first + suc j₁) k₁))
-        → mostUsed v (forward at p (suc (j + suc j₁) + k₁))
-        ≡ max (instructionTemporaries (when (opposite q) l r s)) (mostUsed v (forward at (p + suc (j + suc j₁)) k₁))
+        → largestStored v (forward at first (suc j₁ + k₁)) ≡ max (simpleTemporaries s)
+        (largestStored v (forward at (first + suc j₁) k₁))
+        → largestStored v (forward at p (suc (j + suc j₁) + k₁))
+        ≡ max (instructionTemporaries (when (opposite q) l r s)) (largestStored v (forward at (p + suc (j + suc j₁)) k₁))
     when-used s j₁ k₁ e =
         let past : first + suc j₁ ≡ p + suc (j + suc j₁) = omega arith in
         let count : suc (j + suc j₁) + k₁ ≡ suc j + (suc j₁ + k₁) = omega arith in
         rw (count, ← past)
         (used-before (suc j₁ + k₁) (comparisonTemporaries l r) used
         ∙ ap (max (comparisonTemporaries l r)) e
-        ∙ max-front (comparisonTemporaries l r) (simpleTemporaries s) (mostUsed v (forward at (first + suc j₁) k₁)))
+        ∙ max-front (comparisonTemporaries l r) (simpleTemporaries s) (largestStored v (forward at (first + suc j₁) k₁)))
 
     else-used : (j₁ k₁ t j₂ k₂ : ℕ) → at (first + suc j₁) ≡ Jump t → k₁ ≡ suc (suc j₂ + k₂)
-        → mostUsed v (forward at (first + suc j₁) k₁) ≡ mostUsed v (forward at (suc (first + suc j₁)) (suc j₂ + k₂))
-    unfolding mostUsed forward
+        → largestStored v (forward at (first + suc j₁) k₁) ≡ largestStored v (forward at (suc (first + suc j₁)) (suc j₂ + k₂))
+    unfolding largestStored forward
     else-used j₁ k₁ t j₂ k₂ o e = rw (e, o) (omega arith)
 
     either-used : (s w : Simple) (j₁ k₁ t j₂ k₂ : ℕ) → at (first + suc j₁) ≡ Jump t → k₁ ≡ suc (suc j₂ + k₂)
-        → mostUsed v (forward at first (suc j₁ + k₁)) ≡ max (simpleTemporaries s)
-        (mostUsed v (forward at (first + suc j₁) k₁))
-        → mostUsed v (forward at (suc (first + suc j₁)) (suc j₂ + k₂))
-        ≡ max (simpleTemporaries w) (mostUsed v (forward at (suc (first + suc j₁) + suc j₂) k₂))
-        → mostUsed v (forward at p (suc (j + suc j₁ + suc (suc j₂)) + k₂))
+        → largestStored v (forward at first (suc j₁ + k₁)) ≡ max (simpleTemporaries s)
+        (largestStored v (forward at (first + suc j₁) k₁))
+        → largestStored v (forward at (suc (first + suc j₁)) (suc j₂ + k₂))
+        ≡ max (simpleTemporaries w) (largestStored v (forward at (suc (first + suc j₁) + suc j₂) k₂))
+        → largestStored v (forward at p (suc (j + suc j₁ + suc (suc j₂)) + k₂))
         ≡ max (instructionTemporaries (either (opposite q) l r s w))
-        (mostUsed v (forward at (p + suc (j + suc j₁ + suc (suc j₂))) k₂))
+        (largestStored v (forward at (p + suc (j + suc j₁ + suc (suc j₂))) k₂))
     either-used s w j₁ k₁ t j₂ k₂ o e u u₂ =
         let past : suc (first + suc j₁) + suc j₂ ≡ p + suc (j + suc j₁ + suc (suc j₂)) = omega arith in
         let count : suc (j + suc j₁ + suc (suc j₂)) + k₂ ≡ suc j + (suc j₁ + k₁) = omega (arith, e) in
         let c = comparisonTemporaries l r in
-        let rest = mostUsed v (forward at (suc (first + suc j₁) + suc j₂) k₂) in
+        let rest = largestStored v (forward at (suc (first + suc j₁) + suc j₂) k₂) in
         rw (count, ← past)
         (used-before (suc j₁ + k₁) c used
         ∙ ap (max c) (u ∙ ap (max (simpleTemporaries s)) (else-used j₁ k₁ t j₂ k₂ o e ∙ u₂)

@@ -11,25 +11,25 @@ use lib.ListN.{length, getD, set, length-set}
 use lib.Seq.{getD-set-same, getD-set-other}
 use Rattle.base.specs.Choice.{pick}
 use Rattle.order.specs.declared.Order.{Order}
-use Rattle.order.specs.Order.{ordersFrom}
+use Rattle.order.specs.Memory.{ordersFrom}
+use Rattle.sheet.specs.Temporaries.{storedTo, largestStored}
 use Rattle.untranslate_look.specs.declared.orders.Place.the-variants.{At, Nowhere}
 use Rattle.untranslate_look.specs.Internal.{Held, view, went, stuck, onStep, isEndAt, orderAt}
 use Rattle.untranslate_look.proofs.Left.{left, none-left}
 use Rattle.untranslate_shape.specs.Internal.{shapeAt, shapePast}
 use Rattle.untranslate_instruction.specs.Internal.{instructionRead, wordsFrom, numberIn}
 use Rattle.untranslate.specs.Internal.{downFrom, allRead, Starts, starts, unmarked, behind, startsOn, startsFrom}
-use Rattle.untranslate.specs.Internal.{usedBy, mostUsed}
 
 -- ---- the temporaries that are used
 
 module _ (ns vs : List ℕ) (v n i most : ℕ) where
-  pub used-turn : (m : ℕ) → i < n → m ≡ max most (usedBy v (orderAt ns vs i))
-      → max m (mostUsed v (ordersFrom (i + 1) (n - (i + 1)) ns vs)) ≡ max most (mostUsed v (ordersFrom i (n - i) ns vs))
-  unfolding mostUsed ordersFrom orderAt
+  pub used-turn : (m : ℕ) → i < n → m ≡ max most (storedTo v (orderAt ns vs i))
+      → max m (largestStored v (ordersFrom (i + 1) (n - (i + 1)) ns vs)) ≡ max most (largestStored v (ordersFrom i (n - i) ns vs))
+  unfolding largestStored ordersFrom orderAt
   used-turn m h e = rw (left n i h, e, add-one i) (omega arith)
 
-  pub used-over : n ≤ i → most ≡ max most (mostUsed v (ordersFrom i (n - i) ns vs))
-  unfolding mostUsed ordersFrom
+  pub used-over : n ≤ i → most ≡ max most (largestStored v (ordersFrom i (n - i) ns vs))
+  unfolding largestStored ordersFrom
   used-over h = rw (none-left n i h) (omega arith)
 
 -- ---- the places where the instructions begin

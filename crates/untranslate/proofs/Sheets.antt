@@ -5,25 +5,26 @@ use mathlib.Core.Path.{_≡_, refl, sym, ap, _∙_}
 use mathlib.Core.List.{List, [], _∷_, _++_}
 use native.Mathlib.Omega.{arith}
 use native.Mathlib.Nat.{sub-zero}
-use borrow.Author.Tests.{lt-leb, le-leb, eq-eqb, ne-eqb, eqb-true}
+use borrow.Author.Tests.{lt-leb, le-leb, eq-eqb, ne-eqb}
 use lib.Dec.{eqb}
 use lib.ListN.{length}
 use Rattle.base.specs.Choice.{pick}
 use Rattle.base.specs.Front.{found, missing, onFront}
 use Rattle.base.proofs.Cases.{by-test}
 use Rattle.order.specs.declared.Order.{Order}
-use Rattle.order.specs.Order.{number}
-use Rattle.sheet.specs.Sheet.{Instruction}
+use Rattle.order.proofs.Numbers.{stop-number}
+use Rattle.order.proofs.OrderTests.{stop-told}
+use Rattle.sheet.specs.Sheet.{Instruction, retargetOne}
 use Rattle.sheet.specs.Fields.{fieldsOfAll}
 use Rattle.sheet.specs.Translation.{orders, instructionTemporaries, temporariesOfAll}
-use Rattle.sheet.specs.ReadBack.{Back, onBack, instructionAt, isEnd, instructionsAt, numberFrom, retargetOne}
+use Rattle.sheet.specs.ReadBack.{Back, onBack, instructionAt, isEnd, instructionsAt, numberFrom}
 use Rattle.sheet.specs.ReadBack.{retargetAll, leadsOne, leadsAll}
-use Rattle.sheet.proofs.Found.{stop-told}
+use Rattle.sheet.specs.Temporaries.{largestStored}
 use Rattle.untranslate_look.specs.Internal.{isEndAt, Held, held, Step, went, onStep}
 use Rattle.untranslate_shape.specs.declared.Shape.{Shape}
 use Rattle.untranslate_shape.specs.Internal.{shapeAt, shapePast}
 use Rattle.untranslate_instruction.specs.Internal.{numberIn, instructionRead}
-use Rattle.untranslate.specs.Internal.{counted, Starts, starts, unmarked, behind, startsOn, startsFrom, mostUsed}
+use Rattle.untranslate.specs.Internal.{counted, Starts, starts, unmarked, behind, startsOn, startsFrom}
 use Rattle.untranslate.proofs.Fields.{Answer, wrote, refused, inFront, Does, refuses, writes, does-same, does-then}
 use Rattle.untranslate.proofs.Simples.{forward}
 use Rattle.untranslate.proofs.Instructions.{answerOne, InstructionPart, bad, unread, whole, instruction-part}
@@ -44,13 +45,14 @@ number-starts v (i ∷ is) p s a = ap (pick (eqb p a) s) (number-starts v is (p 
 end-same : (at : ℕ → Order) (n p k : ℕ) → p + k ≡ n → isEndAt at n p ≡ isEnd (forward at p k)
 unfolding isEndAt isEnd forward pick
 end-same at n p zero e = rw (le-leb n p (omega (arith, e))) refl
-end-same at n p (suc zero) e = rw (lt-leb n p (omega (arith, e)), eq-eqb (n - p) 1 (omega (arith, e))) refl
+end-same at n p (suc zero) e =
+    rw (lt-leb n p (omega (arith, e)), eq-eqb (n - p) 1 (omega (arith, e))) (stop-number (at p))
 end-same at n p (suc (suc k)) e = rw (lt-leb n p (omega (arith, e)), ne-eqb (n - p) 1 (λ z. omega (arith, e, z))) refl
 
-end-unused : (v : ℕ) (l : List Order) → isEnd l ≡ true → mostUsed v l ≡ 0
-unfolding isEnd mostUsed
+end-unused : (v : ℕ) (l : List Order) → isEnd l ≡ true → largestStored v l ≡ 0
+unfolding isEnd largestStored
 end-unused v [] e = refl
-end-unused v (o ∷ []) e = rw (stop-told o (eqb-true (number o) 0 e)) refl
+end-unused v (o ∷ []) e = rw (stop-told o e) refl
 end-unused v (o ∷ r ∷ l) e = let z : _≡_ {A = ℕ} 0 1 = cc in absurd (omega (arith, z))
 
 -- ---- the instructions at the places ps, the last first
@@ -68,7 +70,7 @@ module _ (at : ℕ → Order) (v n : ℕ) where
   abbrev pub AllKnown : ℕ → ℕ → List ℕ → ℕ → Back (List Instruction) → Type 0
   AllKnown p k ps last missing = Unit {0}
   AllKnown p k ps last (found is rest) =
-      (ps ++ (last ∷ []) ≡ startsOf v p is) × (length ps ≡ length is) × (mostUsed v (forward at p k) ≡ temporariesOfAll is)
+      (ps ++ (last ∷ []) ≡ startsOf v p is) × (length ps ≡ length is) × (largestStored v (forward at p k) ≡ temporariesOfAll is)
 
   -- k orders from p on
   pub data AllPart (p k : ℕ) : Starts → Back (List Instruction) → Type 0 where
@@ -123,7 +125,7 @@ module _ (at : ℕ → Order) (v n : ℕ) where
     behind-read : (i : Instruction) {ss : Starts} {b : Back (List Instruction)}
         → ((all : ℕ) (to : ℕ → ℕ) → Does all p (p + suc j) (instructionRead at (v + 2) to p shape) (answerOne to i))
         → orders v i ≡ suc j
-        → mostUsed v (forward at p (suc j + k₁)) ≡ max (instructionTemporaries i) (mostUsed v (forward at (p + suc j) k₁))
+        → largestStored v (forward at p (suc j + k₁)) ≡ max (instructionTemporaries i) (largestStored v (forward at (p + suc j) k₁))
         → AllPart (p + suc j) k₁ ss b
         → AllPart p k (behind (p ∷ []) ss) (onBack b (λ is rest. found (i ∷ is) rest))
     unfolding behind onFront
@@ -143,10 +145,10 @@ module _ (at : ℕ → Order) (v n : ℕ) where
         begun : (p ∷ ps) ++ (last ∷ []) ≡ startsOf v p (i ∷ is)
         begun = unfold startsOf in ap (λ l. p ∷ l) (known .0 ∙ ap (λ o. startsOf v (p + o) is) (sym size))
 
-        all-used : mostUsed v (forward at p k) ≡ temporariesOfAll (i ∷ is)
+        all-used : largestStored v (forward at p k) ≡ temporariesOfAll (i ∷ is)
         all-used = unfold temporariesOfAll in
             (let count : k ≡ suc j + k₁ = omega (arith, left, ends) in
-            ap (λ c. mostUsed v (forward at p c)) count ∙ used ∙ ap (max (instructionTemporaries i)) (known .2))
+            ap (λ c. largestStored v (forward at p c)) count ∙ used ∙ ap (max (instructionTemporaries i)) (known .2))
 
   next-part : (f p k : ℕ) (shape : Shape) (b : Back Instruction) → p + k ≡ n → shapeAt at (v + 2) n p ≡ shape
       → InstructionPart at v p n shape b

@@ -15,11 +15,12 @@ use Rattle.order.specs.declared.Order.{Order}
 use Rattle.order.specs.declared.Order.the-variants.{Word, Number, Store, Neg, Not, Jump, Branch, Send, Stop}
 use Rattle.sheet.specs.declared.Field.{Field}
 use Rattle.sheet.specs.declared.Field.the-variants.{Send as SendField, Set, Goto}
-use Rattle.sheet.specs.Sheet.{Expression, Simple, set, send, goto}
+use Rattle.sheet.specs.Sheet.{Expression, Simple, set, send, goto, retarget}
 use Rattle.sheet.specs.Fields.{expressionFields, simpleFields}
 use Rattle.sheet.specs.Translation.{code, simpleCode, temporaries, simpleTemporaries}
 use Rattle.sheet.specs.ReadBack.{Back, onBack, nothingLeft, isVariable, inExpression, Cut, cut, cutFrom}
-use Rattle.sheet.specs.ReadBack.{simpleEnd, simpleCut, simpleAt, retarget, leads}
+use Rattle.sheet.specs.ReadBack.{simpleEnd, simpleCut, simpleAt, leads}
+use Rattle.sheet.specs.Temporaries.{temporaryOf, storedTo, largestStored}
 use Rattle.untranslate_look.specs.declared.orders.Place.{Place}
 use Rattle.untranslate_look.specs.declared.orders.Place.the-variants.{At, Nowhere}
 use Rattle.untranslate_look.specs.Internal.{Held, went, pushed}
@@ -27,7 +28,6 @@ use Rattle.untranslate_expression.specs.Internal.{wholeRead}
 use Rattle.untranslate_shape.specs.declared.Ending.the-variants.{Ends}
 use Rattle.untranslate_shape.specs.Internal.{inside, scanFrom, endingOf, simpleEnding, pastFrom, simplePast}
 use Rattle.untranslate_instruction.specs.Internal.{gotoRead, endingRead, simpleRead}
-use Rattle.untranslate.specs.Internal.{temporaryOf, usedBy, mostUsed}
 use Rattle.untranslate.proofs.Agreement.{backward}
 use Rattle.untranslate.proofs.Fields.{Answer, wrote, refused, inFront, Does, refuses, writes, does-same, does-pushed}
 use Rattle.untranslate.proofs.Fields.{push-some}
@@ -47,25 +47,25 @@ used-joined : (a b c : ℕ) → max b (max a c) ≡ max (max a b) c
 used-joined a b c = omega arith
 
 used-next : (at : ℕ → Order) (v p j k b : ℕ)
-    → max b (mostUsed v (forward at (p + j) (suc k))) ≡ max (max (usedBy v (at (p + j))) b)
-    (mostUsed v (forward at (p + suc j) k))
-unfolding mostUsed forward
+    → max b (largestStored v (forward at (p + j) (suc k))) ≡ max (max (storedTo v (at (p + j))) b)
+    (largestStored v (forward at (p + suc j) k))
+unfolding largestStored forward
 used-next at v p j k b =
-    used-joined (usedBy v (at (p + j))) b (mostUsed v (forward at (suc (p + j)) k))
-    ∙ ap (λ q. max (max (usedBy v (at (p + j))) b) (mostUsed v (forward at q k))) (sym (add-suc p j))
+    used-joined (storedTo v (at (p + j))) b (largestStored v (forward at (suc (p + j)) k))
+    ∙ ap (λ q. max (max (storedTo v (at (p + j))) b) (largestStored v (forward at q k))) (sym (add-suc p j))
 
 pub used-split : (at : ℕ → Order) (v p j k : ℕ)
-    → mostUsed v (forward at p (j + k)) ≡ max (mostUsed v (backward at p j)) (mostUsed v (forward at (p + j) k))
-unfolding mostUsed backward
+    → largestStored v (forward at p (j + k)) ≡ max (largestStored v (backward at p j)) (largestStored v (forward at (p + j) k))
+unfolding largestStored backward
 used-split at v p zero k =
     let here : p + 0 ≡ p = omega arith in
     let all : 0 + k ≡ k = omega arith in
     rw (here, all) (omega arith)
 used-split at v p (suc j) k =
     let one : suc j + k ≡ j + suc k = omega arith in
-    ap (λ n. mostUsed v (forward at p n)) one
+    ap (λ n. largestStored v (forward at p n)) one
     ∙ used-split at v p j (suc k)
-    ∙ used-next at v p j k (mostUsed v (backward at p j))
+    ∙ used-next at v p j k (largestStored v (backward at p j))
 
 -- ---- the first order that ends an expression
 
@@ -115,7 +115,7 @@ pub data SimplePart (at : ℕ → Order) (v p n : ℕ) : Place → Back Simple �
   read : (u : Simple) (j k : ℕ) → p + suc j + k ≡ n
       → ((all : ℕ) (to : ℕ → ℕ) → Does all p (p + suc j) (simpleRead at (v + 2) to p (p + suc j)) (answer to u))
       → length (simpleCode v (λ s. 0) u) ≡ suc j
-      → mostUsed v (forward at p (suc j + k)) ≡ max (simpleTemporaries u) (mostUsed v (forward at (p + suc j) k))
+      → largestStored v (forward at p (suc j + k)) ≡ max (simpleTemporaries u) (largestStored v (forward at (p + suc j) k))
       → SimplePart at v p n (At (p + suc j)) (found u (forward at (p + suc j) k))
 
 module _ (at : ℕ → Order) (v p n : ℕ) where
@@ -128,15 +128,15 @@ module _ (at : ℕ → Order) (v p n : ℕ) where
       let last : p + suc j - 1 ≡ p + j = omega arith in
       rw (lt-leb (p + suc j) p some, last) refl
 
-  used-last : (j k t : ℕ) (o : Order) → at (p + j) ≡ o → usedBy v o ≡ 0 → mostUsed v (backward at p j) ≡ t
-      → mostUsed v (forward at p (suc j + k)) ≡ max t (mostUsed v (forward at (p + suc j) k))
-  unfolding mostUsed backward
+  used-last : (j k t : ℕ) (o : Order) → at (p + j) ≡ o → storedTo v o ≡ 0 → largestStored v (backward at p j) ≡ t
+      → largestStored v (forward at p (suc j + k)) ≡ max t (largestStored v (forward at (p + suc j) k))
+  unfolding largestStored backward
   used-last j k t o of uf e = used-split at v p (suc j) k ∙ rw (of, uf, e) (omega arith)
 
   -- SET and SEND: `c` has the expression, f is the field in front
   module _ (j k : ℕ) (e : p + suc j + k ≡ n) (o : Order) (of : at (p + j) ≡ o) (f : Field) (c : Expression → Simple)
       (ending : endingOf (v + 2) o ≡ Ends f)
-      (unused : usedBy v o ≡ 0)
+      (unused : storedTo v o ≡ 0)
       (fields : (to : ℕ → ℕ) (x : Expression) → answer to (c x) ≡ wrote (f ∷ expressionFields x))
       (size : (x : Expression) → length (simpleCode v (λ s. 0) (c x)) ≡ length (code v 0 x) + 1)
       (used : (x : Expression) → simpleTemporaries (c x) ≡ temporaries x) where
@@ -191,7 +191,7 @@ module _ (at : ℕ → Order) (v p n : ℕ) where
             (nothingLeft (backward at p i) (found (goto a) (forward at (p + suc j) k)))
         go zero z = unfold nothingLeft in unfold backward in
             read (goto a) j k e (λ all to. goto-does all to (sym z)) (omega (arith, z))
-            (used-last j k 0 (Jump a) of refl (unfold mostUsed in unfold backward in rw (← z) refl))
+            (used-last j k 0 (Jump a) of refl (unfold largestStored in unfold backward in rw (← z) refl))
         go (suc i) z = unfold nothingLeft in unfold backward in
             failed j k e (λ all to. does-same (by-goto to) (refuses (λ out gs h m.
             unfold gotoRead in unfold pick in rw (ne-eqb p (p + j) (λ y. omega (arith, y, z))) refl)))

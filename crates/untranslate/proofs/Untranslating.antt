@@ -12,13 +12,14 @@ use Rattle.base.specs.Choice.{pick}
 use Rattle.base.specs.Front.{found, missing}
 use Rattle.base.proofs.Cases.{by-test}
 use Rattle.order.specs.declared.Order.{Order}
-use Rattle.order.specs.Order.{ordersFrom}
+use Rattle.order.specs.Memory.{ordersFrom}
 use Rattle.sheet.specs.declared.Field.{Field}
 use Rattle.sheet.specs.Sheet.{Instruction}
 use Rattle.sheet.specs.Fields.{fieldsOfAll}
 use Rattle.sheet.specs.Translation.{temporariesOfAll}
 use Rattle.sheet.specs.ReadBack.{Back, instructionsAt, numberOf, retargetAll, leadsAll, renumbered}
 use Rattle.sheet.specs.ReadBack.{untranslate}
+use Rattle.sheet.specs.Temporaries.{largestStored}
 use Rattle.sheet.proofs.Retargeted.{length-same, temporaries-same}
 use Rattle.sheet_field.specs.Memory.{fieldsFrom}
 use Rattle.untranslate_look.specs.Internal.{orderAt, Held, held, view, Step, went, stuck, onStep}
@@ -26,9 +27,8 @@ use Rattle.untranslate_shape.specs.Internal.{shapeAt}
 use Rattle.untranslate_instruction.specs.Internal.{wordsFrom, numberIn, instructionRead}
 use Rattle.untranslate.specs.declared.Untranslated.{Untranslated}
 use Rattle.untranslate.specs.declared.Untranslated.the-variants.{Sheet, Missing}
-use Rattle.untranslate.specs.Answers.{Offer, fieldsOfSheet, nothing, readOff, offered}
+use Rattle.untranslate.specs.Answers.{Offer, fieldsOfSheet, refusal, readOff, offered}
 use Rattle.untranslate.specs.Internal.{counted, Starts, starts, unmarked, startsFrom, downFrom, allRead, untold}
-use Rattle.untranslate.specs.Internal.{mostUsed}
 use Rattle.untranslate.proofs.Loops.{words-more}
 use Rattle.untranslate.proofs.Fields.{wrote, refused, Does, refuses, writes}
 use Rattle.untranslate.proofs.Simples.{forward, forward-length}
@@ -94,7 +94,7 @@ front-same (a ∷ xs) (b ∷ ys) x y e =
 
 abbrev pub offerOf : Step → Offer
 offerOf (went count (held out ks vs fs)) = fieldsOfSheet count fs
-offerOf stuck = nothing
+offerOf stuck = refusal 31 0
 
 pub read-off : (r : Untranslated) (ks vs : List ℕ) → readOff r ks vs ≡ offerOf (untold r ks vs)
 read-off (Sheet count from) ks vs = refl
@@ -116,8 +116,8 @@ module _ (at : ℕ → Order) (v n t : ℕ) where
   Clean b = offered (renumbered v t b)
 
   -- where the temporaries are others
-  other-temporaries : (mostUsed v (forward at 0 n) ≡ t → ⊥) → {ss : Starts} {b : Back (List Instruction)}
-      → AllPart at v n 0 n ss b → Clean b ≡ nothing
+  other-temporaries : (largestStored v (forward at 0 n) ≡ t → ⊥) → {ss : Starts} {b : Back (List Instruction)}
+      → AllPart at v n 0 n ss b → Clean b ≡ refusal 31 0
   other-temporaries d no-starts = refl
   other-temporaries d (some-starts ps last missing l g known) = refl
   other-temporaries d (some-starts ps last (found is rest) l g known) = unfold pick in
@@ -126,19 +126,19 @@ module _ (at : ℕ → Order) (v n t : ℕ) where
       ne-eqb (temporariesOfAll js) t (λ z. d (known .2 ∙ sym (temporaries-same (numberOf v is) is) ∙ z)) in
       by-test (leadsAll js) (λ y. rw (y, differ) refl) (λ y. rw y refl))
 
-  pub untold-temporaries : (mostUsed v (forward at 0 n) ≡ t → ⊥) → nothing ≡ Clean (instructionsAt n v n (forward at 0 n))
+  pub untold-temporaries : (largestStored v (forward at 0 n) ≡ t → ⊥) → refusal 31 0 ≡ Clean (instructionsAt n v n (forward at 0 n))
   untold-temporaries d = sym (other-temporaries d (all-part at v n n 0 n (omega arith)))
 
   -- where no places are found
   unmarked-nothing : {ss : Starts} {b : Back (List Instruction)} → AllPart at v n 0 n ss b → unmarked ≡ ss
-      → nothing ≡ Clean b
+      → refusal 31 0 ≡ Clean b
   unmarked-nothing no-starts e = refl
   unmarked-nothing (some-starts ps last b l g known) e = let z : _≡_ {A = ℕ} 0 1 = cc in absurd (omega (arith, z))
 
-  pub untold-places : unmarked ≡ startsFrom at (v + 2) n n 0 → nothing ≡ Clean (instructionsAt n v n (forward at 0 n))
+  pub untold-places : unmarked ≡ startsFrom at (v + 2) n n 0 → refusal 31 0 ≡ Clean (instructionsAt n v n (forward at 0 n))
   untold-places e = unmarked-nothing (all-part at v n n 0 n (omega arith)) e
 
-  module _ (ss : List ℕ) (many all : ℕ) (room : 2 * n ≤ all) (same : mostUsed v (forward at 0 n) ≡ t) where
+  module _ (ss : List ℕ) (many all : ℕ) (room : 2 * n ≤ all) (same : largestStored v (forward at 0 n) ≡ t) where
     abbrev answered : Offer
     answered = offerOf (allRead at (v + 2) n ss many (held all all all []))
 
@@ -170,7 +170,7 @@ module _ (at : ℕ → Order) (v n t : ℕ) where
 
       -- nothing is read
       refused-all : last ≤ n → Does all 0 last (allAt at v n (numberIn (wordsFrom 0 many ss) 1) ps) refused
-          → answered ≡ nothing
+          → answered ≡ refusal 31 0
       unfolding onStep
       refused-all l d =
           ap offerOf (by-places ∙ ap (counted (many - 1)) (when-refused d all [] (omega (arith, l, room)) (omega arith)))
@@ -237,11 +237,11 @@ module _ (ns os : List ℕ) (n v t : ℕ) where
       (orderAt ns os) 0 n in
       sym (rw (l, orders-forward ns os 0 n) refl)
 
-  pub temporaries-nothing : (mostUsed v (ordersFrom 0 n ns os) ≡ t → ⊥) → nothing ≡ Given
+  pub temporaries-nothing : (largestStored v (ordersFrom 0 n ns os) ≡ t → ⊥) → refusal 31 0 ≡ Given
   temporaries-nothing d =
-      untold-temporaries (orderAt ns os) v n t (λ e. d (ap (mostUsed v) (orders-forward ns os 0 n) ∙ e)) ∙ clean-orders
+      untold-temporaries (orderAt ns os) v n t (λ e. d (ap (largestStored v) (orders-forward ns os 0 n) ∙ e)) ∙ clean-orders
 
-  pub places-nothing : unmarked ≡ startsFrom (orderAt ns os) (v + 2) n n 0 → nothing ≡ Given
+  pub places-nothing : unmarked ≡ startsFrom (orderAt ns os) (v + 2) n n 0 → refusal 31 0 ≡ Given
   places-nothing e = untold-places (orderAt ns os) v n t e ∙ clean-orders
 
   empty-view : (ks vs : List ℕ) → length vs ≡ length ks
@@ -254,11 +254,11 @@ module _ (ns os : List ℕ) (n v t : ℕ) where
   pub sheet-given : (r : Untranslated) (ks vs ks₀ vs₀ ss : List ℕ) (many : ℕ)
       → untold r ks vs ≡ allRead (orderAt ns os) (v + 2) n ss many (view (length ks₀) ks₀ vs₀)
       → starts (wordsFrom 0 many ss) ≡ startsFrom (orderAt ns os) (v + 2) n n 0
-      → mostUsed v (ordersFrom 0 n ns os) ≡ t
+      → largestStored v (ordersFrom 0 n ns os) ≡ t
       → length vs₀ ≡ length ks₀ → 2 * n ≤ length ks₀
       → readOff r ks vs ≡ Given
   sheet-given r ks vs ks₀ vs₀ ss many e s u l h =
       read-off r ks vs
       ∙ ap offerOf (e ∙ ap (allRead (orderAt ns os) (v + 2) n ss many) (empty-view ks₀ vs₀ l))
-      ∙ told-all (orderAt ns os) v n t ss many (length ks₀) h (ap (mostUsed v) (sym (orders-forward ns os 0 n)) ∙ u) s
+      ∙ told-all (orderAt ns os) v n t ss many (length ks₀) h (ap (largestStored v) (sym (orders-forward ns os 0 n)) ∙ u) s
       ∙ clean-orders

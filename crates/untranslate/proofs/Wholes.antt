@@ -18,6 +18,8 @@ use Rattle.sheet.specs.Fields.{expressionFields}
 use Rattle.sheet.specs.Translation.{code, temporary, temporaries, comparisonCode, comparisonTemporaries}
 use Rattle.sheet.specs.ReadBack.{Back, Operands, operands, expressionBack, lastCompares, comparisonBack}
 use Rattle.sheet.specs.ReadBack.{wordOperands, plainOperands}
+use Rattle.sheet.specs.Temporaries.{storedTo, largestStored}
+use Rattle.sheet.proofs.Temporaries.{raised, raised-zero}
 use Rattle.untranslate_look.specs.declared.node.Right.{Right}
 use Rattle.untranslate_look.specs.declared.node.Right.the-variants.{Nothing, Plain}
 use Rattle.untranslate_look.specs.declared.node.Node.{Node}
@@ -25,8 +27,6 @@ use Rattle.untranslate_look.specs.declared.node.Node.the-variants.{Leaf, Over, 
 use Rattle.untranslate_look.specs.Internal.{Held, held, Step, went, stuck, onStep, useOf, isVariableWord, rightWord, nodeOf}
 use Rattle.untranslate_expression.specs.Internal.{wholly, operandsRead, expressionRead, wholeRead, compareRead}
 use Rattle.untranslate_expression.specs.Internal.{comparisonRead}
-use Rattle.untranslate.specs.Internal.{usedBy, mostUsed}
-use Rattle.untranslate.proofs.Temporaries.{raised, raised-zero}
 use Rattle.untranslate.proofs.Agreement.{backward, Took, Agrees, neither, both}
 use Rattle.untranslate.proofs.ExpressionAgrees.{twoFields, twoSize, twoUsed, joined-length, TwoAgrees}
 use Rattle.untranslate.proofs.ExpressionAgrees.{expression-agrees, each-use, word-agrees, number-agrees}
@@ -47,7 +47,7 @@ pub data Whole (at : ℕ → Order) (v start q : ℕ) (A : Type 0) (fs : A → L
     (part : Held → Step) : Back A → Type 0 where
   fails : (b : Back A) → ((all : ℕ) → Does all start q part refused) → Unread b → Whole at v start q A fs size used k part b
   reads : (a : A) → ((all : ℕ) → Does all start q part (wrote (fs a))) → size a ≡ k
-      → mostUsed v (backward at start k) ≡ used a
+      → largestStored v (backward at start k) ≡ used a
       → Whole at v start q A fs size used k part (found a [])
 
 module _ (at : ℕ → Order) (v start : ℕ) (A : Type 0) (fs : A → List Field) (size used : A → ℕ) (Also : A → Type 0)
@@ -67,7 +67,7 @@ module _ (at : ℕ → Order) (v start : ℕ) (A : Type 0) (fs : A → List Fiel
       → ((all out : ℕ) (gs : List Field) → 2 * (start + (spare + k)) ≤ out → out ≤ all
       → Agrees at v start all A fs size used Also spare k out gs (part (held out all all gs)) b)
       → Whole at v start (start + (spare + k)) A fs size used k (λ h. wholly start (part h)) b
-  unfolding onStep pick mostUsed backward
+  unfolding onStep pick largestStored backward
   wholly-agrees part missing agreed =
       fails missing (λ all. refuses (λ out gs h m. rw (nothing-found (agreed all out gs h m)) refl)) none-found
   wholly-agrees part (found a (o ∷ l)) agreed =
@@ -79,7 +79,7 @@ module _ (at : ℕ → Order) (v start : ℕ) (A : Type 0) (fs : A → List Fiel
       (some-left a o l)
   wholly-agrees part (found a []) agreed =
       let all = 2 * (start + (spare + k)) in
-      let one : (size a ≡ k) × (length (fs a) ≤ 2 * k + spare) × (mostUsed v (backward at start k) ≡ used a) =
+      let one : (size a ≡ k) × (length (fs a) ≤ 2 * k + spare) × (largestStored v (backward at start k) ≡ used a) =
       found-at (agreed all all [] (omega arith) (omega arith))
       (λ k₁ out₁ hs es el t.
       let n : 0 ≡ k₁ = ap length el ∙ backward-length at start k₁ in
@@ -104,7 +104,7 @@ whole-same : {at : ℕ → Order} {v start : ℕ} {A : Type 0} {fs : A → List 
     {part other : Held → Step} {b : Back A}
     (q q₁ : ℕ) → q ≡ q₁ → ((h : Held) → other h ≡ part h)
     → ((a : A) → size a ≡ k → size₁ a ≡ k₁)
-    → ((a : A) → mostUsed v (backward at start k) ≡ used a → mostUsed v (backward at start k₁) ≡ used₁ a)
+    → ((a : A) → largestStored v (backward at start k) ≡ used a → largestStored v (backward at start k₁) ≡ used₁ a)
     → Whole at v start q A fs size used k part b
     → Whole at v start q₁ A fs size₁ used₁ k₁ other b
 whole-same q q₁ e same es eu (fails b d u) = rw (← e) (fails b (λ all. does-same same (d all)) u)
@@ -174,13 +174,13 @@ module _ (at : ℕ → Order) (v start : ℕ) where
       (λ out gs h m. by-node k (held out all all gs) ∙ rw e (s (held out all all gs)))) none-found
 
   compared : (k : ℕ) (f : Order) (right : Right) (b : Back Operands)
-      → at (start + k) ≡ f → usedBy v f ≡ 0 → nodeOf (v + 2) f ≡ Compare right
+      → at (start + k) ≡ f → storedTo v f ≡ 0 → nodeOf (v + 2) f ≡ Compare right
       → ((all out : ℕ) (gs : List Field) → 2 * k + 2 ≤ out → out ≤ all
       → TwoAgrees at v start all 0 k out gs
       (operandsRead (expressionRead k at (v + 2) start) at (v + 2) start (temporary v 0) (start + k) right
       (held out all all gs)) b)
       → WholeComparison (suc k) b
-  unfolding mostUsed backward
+  unfolding largestStored backward
   compared k f right b of uf e agreed =
       whole-same (start + (1 + k)) (start + suc k) (omega arith)
       same

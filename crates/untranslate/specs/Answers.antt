@@ -1,4 +1,4 @@
--- What each case of the answer stands for.
+-- What each case of the answer stands for. Comments in quotes are document 01's words.
 use Prim.Native.Nat.{ℕ, _-_}
 use mathlib.Core.List.{List}
 use lib.ListN.{length}
@@ -10,16 +10,16 @@ use Rattle.sheet_field.specs.Memory.{fieldsFrom}
 use Rattle.untranslate.specs.declared.Untranslated.{Untranslated}
 use Rattle.untranslate.specs.declared.Untranslated.the-variants.{Sheet as Read, Missing}
 
--- the number of a sheet's instructions and its fields, or that there is no sheet
+-- the number of a sheet's instructions and its fields, or document 01's number of the refusal and its place
 pub data Offer : Type 0 where
   fieldsOfSheet : ℕ → List Field → Offer
-  nothing : Offer
+  refusal : ℕ → ℕ → Offer
 
--- the fields stand in the two arrays from a place to the end
+-- the fields stand in the two arrays from a place to the end; 31 "good object, but no sheet translates to it"
 abbrev pub readOff : Untranslated → List ℕ → List ℕ → Offer
 readOff (Read count from) ks vs = fieldsOfSheet count (fieldsFrom from (length ks - from) ks vs)
-readOff Missing ks vs = nothing
+readOff Missing ks vs = refusal 31 0
 
 abbrev pub offered : Given → Offer
 offered (given s) = fieldsOfSheet (length (instructions s)) (sheetFields s)
-offered none = nothing
+offered none = refusal 31 0

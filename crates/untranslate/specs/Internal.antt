@@ -1,12 +1,11 @@
 -- What the private functions do. A reader of the promises needs none of it: proofs/ shows that it comes to `untranslate`.
 -- Orders are read by their places, `at`; first is the word of the first temporary.
-use Prim.Native.Nat.{ℕ, zero, suc, _+_, _-_, max}
+use Prim.Native.Nat.{ℕ, zero, suc, _+_, _-_}
 use mathlib.Core.List.{List, [], _∷_, _++_}
 use lib.Dec.{eqb}
 use lib.ListN.{getD}
 use Rattle.base.specs.Choice.{pick}
 use Rattle.order.specs.declared.Order.{Order}
-use Rattle.order.specs.declared.Order.the-variants.{Word, Number, Store, Neg, Not, Jump, Branch, Send, Stop}
 use Rattle.untranslate_look.specs.declared.orders.Place.{Place}
 use Rattle.untranslate_look.specs.declared.orders.Place.the-variants.{At, Nowhere}
 use Rattle.untranslate_look.specs.Internal.{isEndAt, Held, view, Step, went, stuck, onStep}
@@ -67,23 +66,3 @@ allRead at first n ss many h =
 abbrev pub untold : Untranslated → List ℕ → List ℕ → Step
 untold (Sheet count out) ks vs = went count (view out ks vs)
 untold NoSheet ks vs = stuck
-
--- ---- the temporaries that the orders store to
-
-abbrev pub temporaryOf : ℕ → ℕ → ℕ
-temporaryOf v w = suc w - (v + 2)
-
-abbrev pub usedBy : ℕ → Order → ℕ
-usedBy v (Word f w) = 0
-usedBy v (Number f n) = 0
-usedBy v (Store w) = temporaryOf v w
-usedBy v Neg = 0
-usedBy v Not = 0
-usedBy v (Jump a) = 0
-usedBy v (Branch r a) = 0
-usedBy v Send = 0
-usedBy v Stop = 0
-
-unfoldable pub mostUsed : ℕ → List Order → ℕ
-mostUsed v [] = 0
-mostUsed v (o ∷ l) = max (usedBy v o) (mostUsed v l)

@@ -13,13 +13,14 @@ use untranslate_shape::shape_past;
 ghost use mathlib.Core.Path.{_≡_};
 ghost use Prim.Native.Nat.{_≤_};
 ghost use lib.ListN.{length};
-ghost use Rattle.order.specs.Order.{ordersFrom};
+ghost use Rattle.order.specs.Memory.{ordersFrom};
 ghost use Rattle.order.specs.Limits.{mostOrders, mostVariables};
 ghost use Rattle.sheet.specs.ReadBack.{untranslate};
+ghost use Rattle.sheet.specs.Temporaries.{temporaryOf, storedTo, largestStored};
 ghost use Rattle.sheet_field.specs.Memory.{mostFields};
 ghost use Rattle.untranslate_look.specs.Internal.{orderAt, view};
 ghost use Rattle.untranslate.specs.Answers.{readOff, offered};
-ghost use Rattle.untranslate.specs.Internal.{temporaryOf, usedBy, mostUsed, marked, startsFrom, untold, allRead};
+ghost use Rattle.untranslate.specs.Internal.{marked, startsFrom, untold, allRead};
 
 // The number of instructions, and the place from which the fields stand in the arrays, up to their end; or that no sheet
 // translates to the orders. The arrays then hold anything.
@@ -49,7 +50,7 @@ fn temporary_of(w: u32, v: u32) -> u32
 
 // The same for the word that an order stores to.
 fn used_by(o: Order, v: u32) -> u32
-    ensures { λ r. ⌜ r ≡ usedBy v o ⌝ }
+    ensures { λ r. ⌜ r ≡ storedTo v o ⌝ }
 {
     match o {
         Order::Word(_, _) => 0,
@@ -66,7 +67,7 @@ fn used_by(o: Order, v: u32) -> u32
 
 // The temporaries that the orders use.
 fn most_used(numbers: &[u8], operands: &[u32], n: u32, v: u32) -> u32
-    ensures { λ r. ⌜ r ≡ mostUsed v (ordersFrom 0 n (now (numbers .entry)) (now (operands .entry))) ⌝ }
+    ensures { λ r. ⌜ r ≡ largestStored v (ordersFrom 0 n (now (numbers .entry)) (now (operands .entry))) ⌝ }
 {
     let mut most = 0;
     let mut i: u32 = 0;

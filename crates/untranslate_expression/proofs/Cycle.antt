@@ -11,7 +11,8 @@ use Rattle.base.proofs.Cases.{either-part}
 use Rattle.order.specs.declared.Operation.the-variants.{Load}
 use Rattle.order.specs.declared.Order.{Order}
 use Rattle.order.specs.declared.Order.the-variants.{Word, Store}
-use Rattle.order.specs.Order.{number, operand}
+use Rattle.order.specs.Order.{operand}
+use Rattle.order.specs.Memory.{number}
 use Rattle.sheet.specs.declared.Field.{Field}
 use Rattle.untranslate_look.specs.declared.orders.Place.{Place}
 use Rattle.untranslate_look.specs.declared.orders.Place.the-variants.{At, Nowhere}

@@ -8,7 +8,8 @@ use Rattle.base.specs.Choice.{pick}
 use Rattle.order.specs.declared.Operation.{Operation}
 use Rattle.order.specs.declared.Order.{Order}
 use Rattle.order.specs.declared.Order.the-variants.{Word, Number, Store, Neg, Not, Jump, Branch, Send, Stop}
-use Rattle.order.specs.Order.{number, operand, orderOf}
+use Rattle.order.specs.Order.{operand}
+use Rattle.order.specs.Memory.{number, orderOf}
 use Rattle.sheet.specs.declared.Field.{Field}
 use Rattle.sheet.specs.declared.Field.the-variants.{Neg as NegField, Not as NotField, Binary, Word as WordField, Constant}
 use Rattle.sheet.specs.ReadBack.{byOperation}

@@ -1,130 +1,171 @@
-//! A reader of source held to the reference's. The archive is such a reader, and so is the
-//! reference itself, or a copy of it with a mistake.
+//! A call that reads one text and writes another, held to the rules. The archive makes such calls,
+//! and so does the reference itself, or a copy of it with a mistake.
 
-use crate::source::{read, Refusal};
-use crate::Reply;
+use crate::{compile, read_back, Refusal, Reply};
 use std::collections::{BTreeMap, BTreeSet};
 
-/// Reads a source and writes its sheet text to the front of the buffer, as `source_probe_read` of
-/// the archive does: 0 with the text's length, or the number of the refusal with its place.
-pub type Read = fn(&[u8], &mut [u8]) -> Reply;
+/// Reads a text and writes another to the front of the buffer, as `skimp_compile` and
+/// `skimp_read_back` do: 0 with the text's length, or the number of the refusal with its place.
+pub type Call = fn(&[u8], &mut [u8]) -> Reply;
 
-/// A buffer of so many bytes takes every sheet text.
-pub const BUFFER: usize = 65_536;
-/// Bytes around the buffer, which the reader must leave alone.
-const MARGIN: usize = 13;
-/// What stands where the reader has nothing to write.
-const FILL: u8 = 0xA5;
-
-/// What stands behind the source in memory. A reader that takes any of it goes wrong.
-const BEHIND: &[u8] = b"\n%ENDOFPROGRAM\n\0";
-
-/// A reader with the buffers that are lent to it.
-pub struct Compared {
-    reader: Read,
-    /// The source, at an odd place, and what stands behind it.
-    source: Vec<u8>,
-    lent: Vec<u8>,
-    untouched: Vec<u8>,
+/// What a call is held to.
+#[derive(Clone, Copy)]
+pub struct Rules {
+    /// The text that is to be written, or the refusal, if the buffer is not too short.
+    text: fn(&[u8]) -> Result<String, Refusal>,
+    /// The number of the refusal of a buffer that is too short.
+    too_short: u32,
+    /// A buffer of so many bytes takes every text.
+    most: usize,
+    /// What stands behind the text in memory. A call that takes any of it goes wrong.
+    behind: &'static [u8],
 }
 
-/// What a source was read to, by both.
+pub const COMPILE: Rules = Rules {
+    text: compile,
+    too_short: 12,
+    most: 18_469,
+    behind: b"\n%ENDOFPROGRAM\n\0",
+};
+
+pub const READ_BACK: Rules = Rules {
+    text: read_back,
+    too_short: 32,
+    most: 32_768,
+    behind: b"STOP\t-\t0\n\0",
+};
+
+/// Bytes around the buffer, which the call must leave alone. The odd length leaves the buffer at an
+/// odd address.
+const MARGIN: usize = 13;
+
+/// A call with the buffers that are lent to it.
+pub struct Compared {
+    call: Call,
+    rules: Rules,
+    /// The text that is read, at an odd place, and what stands behind it.
+    input: Vec<u8>,
+    lent: Vec<u8>,
+    /// The bytes that are lent, as they were.
+    before: Vec<u8>,
+}
+
+/// What a text led to, by both.
 pub type Outcome = Result<(), Refusal>;
 
 impl Compared {
-    pub fn new(reader: Read) -> Compared {
-        let lent = vec![FILL; MARGIN + BUFFER + MARGIN];
+    pub fn new(rules: Rules, call: Call) -> Compared {
+        let length = MARGIN + rules.most + MARGIN;
+        // no byte like its neighbours, and none that a text has twice in a row
+        let before: Vec<u8> = (0..length).map(|place| (place * 37 % 251) as u8).collect();
         Compared {
-            reader,
-            source: Vec::new(),
-            untouched: lent.clone(),
-            lent,
+            call,
+            rules,
+            input: Vec::new(),
+            lent: before.clone(),
+            before,
         }
     }
 
-    /// Reads a source. Gives the outcome, or says where the reader differs from the reference.
-    pub fn read(&mut self, source: &[u8]) -> Result<Outcome, String> {
-        let expected = read(source).map(|sheet| sheet.text());
-        let text = expected.as_deref().unwrap_or_default().as_bytes();
-        let reply = match &expected {
-            Ok(text) => Reply {
-                number: 0,
-                value: text.len() as u32,
-            },
-            Err(refusal) => Reply {
-                number: refusal.number,
-                value: refusal.place,
-            },
+    /// Makes the call with a buffer that takes every text. Gives the outcome, or says where the
+    /// call differs from the rules.
+    pub fn read(&mut self, input: &[u8]) -> Result<Outcome, String> {
+        let expected = (self.rules.text)(input);
+        self.compare(input, &expected, self.rules.most)
+    }
+
+    /// The same with a buffer of some length.
+    fn compare(
+        &mut self,
+        input: &[u8],
+        expected: &Result<String, Refusal>,
+        room: usize,
+    ) -> Result<Outcome, String> {
+        let expected = expected.as_deref().map_err(|refusal| *refusal);
+        let expected = expected.and_then(|text| match text.len() <= room {
+            true => Ok(text),
+            false => Err(Refusal {
+                number: self.rules.too_short,
+                place: 0,
+            }),
+        });
+        let (number, value) = match expected {
+            Ok(text) => (0, text.len() as u32),
+            Err(refusal) => (refusal.number, refusal.place),
         };
-        self.source.clear();
-        self.source.push(b'%');
-        self.source.extend(source);
-        self.source.extend(BEHIND);
-        let got = (self.reader)(
-            &self.source[1..1 + source.len()],
-            &mut self.lent[MARGIN..MARGIN + BUFFER],
-        );
+        let reply = Reply { number, value };
+        let text = expected.unwrap_or_default().as_bytes();
+        let got = self.make_call(input, room);
         let difference = if got != reply {
-            Some(format!("replies {got:?}, the reference {reply:?}"))
+            Some(format!("replies {got:?}, the rules {reply:?}"))
         } else if !self.has(text) {
             let written = self.written();
-            Some(format!("writes {written:?}, the reference {expected:?}"))
+            Some(format!("writes {written:?}, the rules {expected:?}"))
         } else {
             None
         };
         match difference {
             Some(difference) => {
-                self.lent.fill(FILL);
+                self.lent.copy_from_slice(&self.before);
                 Err(difference)
             }
             None => {
-                self.lent[MARGIN..MARGIN + text.len()].fill(FILL);
+                let written = MARGIN..MARGIN + text.len();
+                self.lent[written.clone()].copy_from_slice(&self.before[written]);
                 Ok(expected.map(|_| ()))
             }
         }
     }
 
-    /// Whether the text stands at the buffer's front and all else is untouched.
+    fn make_call(&mut self, input: &[u8], room: usize) -> Reply {
+        self.input.clear();
+        self.input.push(b'%');
+        self.input.extend(input);
+        self.input.extend(self.rules.behind);
+        (self.call)(
+            &self.input[1..1 + input.len()],
+            &mut self.lent[MARGIN..MARGIN + room],
+        )
+    }
+
+    /// Whether the text stands at the buffer's front and every other byte is as it was.
     fn has(&self, text: &[u8]) -> bool {
-        let (front, rest) = self.lent.split_at(MARGIN);
-        let (written, behind) = rest.split_at(text.len());
-        written == text
-            && front == &self.untouched[..MARGIN]
-            && behind == &self.untouched[..behind.len()]
+        let end = MARGIN + text.len();
+        &self.lent[MARGIN..end] == text
+            && self.lent[..MARGIN] == self.before[..MARGIN]
+            && self.lent[end..] == self.before[end..]
     }
 
     /// The buffer up to its last byte that was written.
     fn written(&self) -> String {
-        let buffer = &self.lent[MARGIN..MARGIN + BUFFER];
-        let length = buffer
-            .iter()
-            .rposition(|&byte| byte != FILL)
-            .map_or(0, |last| last + 1);
-        String::from_utf8_lossy(&buffer[..length]).into_owned()
+        let changed = |&place: &usize| self.lent[place] != self.before[place];
+        let last = (0..self.lent.len()).rev().find(changed);
+        let end = last.map_or(MARGIN, |last| (last + 1).max(MARGIN));
+        String::from_utf8_lossy(&self.lent[MARGIN..end]).into_owned()
     }
 
-    /// A shorter source for which the reader still differs: no byte of it can be left out.
-    pub fn shorten(&mut self, source: &[u8]) -> Vec<u8> {
-        let mut source = source.to_vec();
+    /// A shorter text for which the call still differs: no byte of it can be left out.
+    pub fn shorten(&mut self, input: &[u8]) -> Vec<u8> {
+        let mut input = input.to_vec();
         loop {
-            let length = source.len();
-            self.leave_out(&mut source);
-            if source.len() == length {
-                return source;
+            let length = input.len();
+            self.leave_out(&mut input);
+            if input.len() == length {
+                return input;
             }
         }
     }
 
-    /// Leaves out pieces of a half of the source, of a quarter and so on, where the reader still
-    /// differs without them.
-    fn leave_out(&mut self, source: &mut Vec<u8>) {
-        let mut length = source.len().div_ceil(2);
+    /// Leaves out pieces of a half of the text, of a quarter and so on, where the call still differs
+    /// without them.
+    fn leave_out(&mut self, input: &mut Vec<u8>) {
+        let mut length = input.len().div_ceil(2);
         while length > 0 {
             let mut place = 0;
-            while place + length <= source.len() {
-                let shorter = [&source[..place], &source[place + length..]].concat();
+            while place + length <= input.len() {
+                let shorter = [&input[..place], &input[place + length..]].concat();
                 match self.read(&shorter) {
-                    Err(_) => *source = shorter,
+                    Err(_) => *input = shorter,
                     Ok(_) => place += length,
                 }
             }
@@ -132,35 +173,62 @@ impl Compared {
         }
     }
 
-    /// Reads a source.
+    /// Makes the call with a buffer that takes every text.
     ///
     /// # Panics
     ///
-    /// If the reader differs from the reference.
-    pub fn check(&mut self, name: &str, source: &[u8]) -> Outcome {
-        self.read(source).unwrap_or_else(|difference| {
-            let short = self.shorten(source);
+    /// If it differs from the rules.
+    pub fn check(&mut self, name: &str, input: &[u8]) -> Outcome {
+        self.read(input).unwrap_or_else(|difference| {
+            let short = self.shorten(input);
             let again = self.read(&short).expect_err("shortened to a difference");
             panic!(
                 "{name}: {difference}\n{}\nshortened: {again}\n{:?}",
-                String::from_utf8_lossy(source),
+                String::from_utf8_lossy(input),
                 String::from_utf8_lossy(&short)
             )
         })
+    }
+
+    /// Makes the call with buffers of several lengths, given the length of the text, or 0 where the
+    /// input is refused for itself. Gives how many of them were too short.
+    ///
+    /// # Panics
+    ///
+    /// If a call differs from the rules.
+    pub fn check_rooms(
+        &mut self,
+        name: &str,
+        input: &[u8],
+        rooms: impl Fn(usize) -> Vec<usize>,
+    ) -> usize {
+        let expected = (self.rules.text)(input);
+        let length = expected.as_ref().map_or(0, String::len);
+        let mut too_short = 0;
+        for room in rooms(length) {
+            let outcome = self.compare(input, &expected, room);
+            let outcome = outcome.unwrap_or_else(|difference| {
+                let input = String::from_utf8_lossy(input);
+                panic!("{name}: with {room} bytes of buffer it {difference}\n{input}")
+            });
+            let is_short = |refusal: Refusal| refusal.number == self.rules.too_short;
+            too_short += usize::from(outcome.is_err_and(is_short));
+        }
+        too_short
     }
 }
 
 /// How often each outcome was met, and at which places.
 #[derive(Default)]
 pub struct Outcomes {
-    pub sources: usize,
+    pub texts: usize,
     pub accepted: usize,
     refused: BTreeMap<u32, (usize, BTreeSet<u32>)>,
 }
 
 impl Outcomes {
     pub fn add(&mut self, outcome: Outcome) {
-        self.sources += 1;
+        self.texts += 1;
         match outcome {
             Ok(()) => self.accepted += 1,
             Err(refusal) => {
@@ -171,22 +239,29 @@ impl Outcomes {
         }
     }
 
-    /// How many sources were refused with a number, and at how many places.
+    /// How many texts were refused with a number, and at how many places.
     pub fn refused(&self, number: u32) -> (usize, usize) {
         let refused = self.refused.get(&number);
         refused.map_or((0, 0), |(count, places)| (*count, places.len()))
     }
 
-    /// Holds acceptance and each refusal from 1 to 11 to having been met `least` times, and each
-    /// but 1, which has only one place, to several places.
+    /// Holds acceptance and each refusal of a source, from 1 to 11, to having been met `least`
+    /// times, and each but 1, which has only one place, to several places.
     pub fn every_one(&self, name: &str, least: usize) {
         assert!(self.accepted >= least, "{name}: {} accepted", self.accepted);
         for number in 1..=11 {
-            let (count, places) = self.refused(number);
-            assert!(count >= least, "{name}: {count} times {number}");
-            let several = number == 1 || places >= 5;
-            assert!(several, "{name}: {number} at {places} places");
+            self.met(name, number, least, if number == 1 { 1 } else { 5 });
         }
+    }
+
+    /// Holds a refusal to having been met `least` times, at `least_places` places.
+    pub fn met(&self, name: &str, number: u32, least: usize, least_places: usize) {
+        let (count, places) = self.refused(number);
+        assert!(count >= least, "{name}: {count} times {number}");
+        assert!(
+            places >= least_places,
+            "{name}: {number} at {places} places"
+        );
     }
 }
 
@@ -195,8 +270,8 @@ impl std::fmt::Display for Outcomes {
     fn fmt(&self, formatter: &mut std::fmt::Formatter<'_>) -> std::fmt::Result {
         write!(
             formatter,
-            "{} sources, {} accepted",
-            self.sources, self.accepted
+            "{} texts, {} accepted",
+            self.texts, self.accepted
         )?;
         for (number, (count, places)) in &self.refused {
             write!(formatter, "; {number}: {count} at {} places", places.len())?;

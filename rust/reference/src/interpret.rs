@@ -15,15 +15,19 @@ pub enum Ending {
 
 /// A program after some of its instructions.
 pub struct Meaning<'a> {
-    sheet: &'a Sheet,
+    pub sheet: &'a Sheet,
     /// How many numbers the output has room for.
     room: usize,
-    /// The instruction to be done next, from 0. One past the last is the end.
-    next: usize,
+    /// The instruction to be done next, from 0, or the one that faulted. One past the last is the
+    /// end.
+    pub next: usize,
+    /// The fault was met in the instruction's second u.
+    pub in_else: bool,
     pub variables: Vec<i32>,
     pub sent: Vec<i32>,
-    /// The orders of the path so far.
+    /// The orders of the path so far, and those before the last instruction.
     pub count: u64,
+    pub begun: u64,
     pub ending: Option<Ending>,
     /// How often each operator gave a value.
     pub operations: [usize; 10],
@@ -38,9 +42,11 @@ impl<'a> Meaning<'a> {
             sheet,
             room,
             next: 0,
+            in_else: false,
             variables: vec![0; sheet.variables as usize],
             sent: Vec::new(),
             count: 0,
+            begun: 0,
             ending: None,
             operations: [0; 10],
             comparisons: [[0; 2]; 6],
@@ -52,13 +58,16 @@ impl<'a> Meaning<'a> {
         if self.ending.is_some() {
             return;
         }
+        self.begun = self.count;
         let Some(instruction) = self.sheet.instructions.get(self.next) else {
             self.count += 1;
             self.ending = Some(Ending::Stopped);
             return;
         };
+        let place = self.next;
         self.next += 1;
         if let Err(fault) = self.instruction(instruction) {
+            self.next = place;
             self.ending = Some(fault);
         }
     }
@@ -86,7 +95,12 @@ impl<'a> Meaning<'a> {
                         self.count += u64::from(!matches!(then, Simple::Goto(_)));
                         Ok(())
                     }
-                    (false, Some(otherwise)) => self.simple(otherwise),
+                    (false, Some(otherwise)) => {
+                        self.in_else = true;
+                        self.simple(otherwise)?;
+                        self.in_else = false;
+                        Ok(())
+                    }
                     (false, None) => Ok(()),
                 }
             }

@@ -3,13 +3,14 @@
 //! code with the archives.
 //!
 //! Besides the rules there is what the tests of this workspace share: random numbers, sheets and
-//! sources (`random`, `generate`, `writing`), what was covered (`census`), runs held to a meaning
-//! (`runs`), and readers of source held to the reference's (`agree`).
+//! sources (`random`, `generate`, `writing`), damaged objects (`damage`), what was covered
+//! (`census`), runs held to a meaning (`runs`), and calls held to the rules (`agree`).
 
 #![forbid(unsafe_code)]
 
 pub mod agree;
 pub mod census;
+pub mod damage;
 pub mod generate;
 pub mod interpret;
 mod machine;
@@ -32,13 +33,46 @@ pub struct Reply {
     pub value: u32,
 }
 
+/// Document 01's number of a refusal, and its place.
+#[derive(Clone, Copy, Debug, PartialEq, Eq, PartialOrd, Ord)]
+pub struct Refusal {
+    pub number: u32,
+    pub place: u32,
+}
+
 const BAD_STATE: u32 = 26;
+const NO_SHEET: u32 = 31;
+
+/// The text of a source's object, which `skimp_compile` of `skimp.h` writes where there is room.
+pub fn compile(source: &[u8]) -> Result<String, Refusal> {
+    let sheet = source::read(source)?;
+    // the limits have been held statement by statement
+    let translation = translate::translate(&sheet).expect("a sheet within the limits");
+    Ok(translation.text())
+}
+
+/// The text of the sheet that translates to an object, which `skimp_read_back` writes where there
+/// is room.
+pub fn read_back(object: &[u8]) -> Result<String, Refusal> {
+    let translation = Object::read(object)?.translation();
+    let sheet = untranslate::untranslate(&translation);
+    let sheet = sheet.ok_or(Refusal {
+        number: NO_SHEET,
+        place: 0,
+    })?;
+    Ok(sheet.text())
+}
 
 /// Runs an object from a state for at most `budget` steps, as `skimp_run` of `skimp.h` does.
 pub fn run(object: &[u8], state: &mut [u8], output: &mut [u8], budget: u32) -> Reply {
     let object = match Object::read(object) {
         Ok(object) => object,
-        Err(refusal) => return refusal,
+        Err(Refusal { number, place }) => {
+            return Reply {
+                number,
+                value: place,
+            };
+        }
     };
     let Some(mut last) = State::read(state, &object, output.len() / 4) else {
         return Reply {

@@ -25,7 +25,7 @@ pub struct State {
 impl State {
     /// The state of the bytes, if it fits the object and the room for numbers.
     pub fn read(bytes: &[u8], object: &Object, room: usize) -> Option<State> {
-        if bytes.len() != HEADER + 4 * object.words {
+        if bytes.len() != HEADER + 4 * object.words() {
             return None;
         }
         let (header, frame) = bytes.split_at(HEADER);

@@ -1,6 +1,7 @@
 //! Orders and object text.
 
-use crate::Reply;
+use crate::translate::Translation;
+use crate::Refusal;
 
 pub const MOST_VARIABLES: u32 = 64;
 pub const MOST_TEMPORARIES: u32 = 32;
@@ -47,21 +48,6 @@ pub const STOP: Order = Order {
 };
 
 impl Order {
-    /// The order's number where orders stand in memory, from 0 to 35.
-    pub fn code(self) -> u8 {
-        let from = |first: Name| self.name as u8 - first as u8;
-        match (self.name, self.kind) {
-            (Name::Stop, _) => 0,
-            (Name::Send, _) => 1,
-            (Name::Neg, _) => 2,
-            (Name::Not, _) => 3,
-            (_, Kind::Address) => 4 + from(Name::Jmp),
-            (Name::Str, _) => 11,
-            (_, Kind::Number) => 24 + from(Name::Load),
-            _ => 12 + from(Name::Load),
-        }
-    }
-
     /// The order's record, without its newline.
     fn record(self) -> String {
         let kind = match self.kind {
@@ -87,8 +73,8 @@ pub fn text(variables: u32, temporaries: u32, orders: &[Order]) -> String {
 
 /// A good object.
 pub struct Object {
-    /// How many words the frame has, link words included.
-    pub words: usize,
+    pub variables: u32,
+    pub temporaries: u32,
     pub length: usize,
     /// The orders, then STOP up to the array's end. Its length lets an index be masked, which
     /// costs less than a test of bounds.
@@ -97,9 +83,10 @@ pub struct Object {
 
 impl Object {
     /// The object that a text states, or the refusal that document 01 fixes.
-    pub fn read(text: &[u8]) -> Result<Object, Reply> {
+    pub fn read(text: &[u8]) -> Result<Object, Refusal> {
         let (header, mut rest) = line(text).ok_or(refusal(BAD_HEADER, 0))?;
-        let (words, length) = frame_and_length(header).ok_or(refusal(BAD_HEADER, 0))?;
+        let sizes = sizes(header).ok_or(refusal(BAD_HEADER, 0))?;
+        let (variables, temporaries, length) = sizes;
         let mut orders = [STOP; MOST_ORDERS];
         for (place, slot) in orders[..length].iter_mut().enumerate() {
             let (record, after) = line(rest).ok_or(refusal(BAD_LINE, place))?;
@@ -109,20 +96,35 @@ impl Object {
         if !rest.is_empty() {
             return Err(refusal(BAD_LINE, length));
         }
-        check_operands(&orders[..length], words)?;
+        check_operands(&orders[..length], LINK_WORDS + variables + temporaries)?;
         check_stop(&orders[..length])?;
         Ok(Object {
-            words: words as usize,
+            variables,
+            temporaries,
             length,
             orders,
         })
     }
+
+    /// How many words the frame has, link words included.
+    pub fn words(&self) -> usize {
+        (LINK_WORDS + self.variables + self.temporaries) as usize
+    }
+
+    /// The orders as those of a translation, which they may be.
+    pub fn translation(&self) -> Translation {
+        Translation {
+            variables: self.variables,
+            temporaries: self.temporaries,
+            orders: self.orders[..self.length].to_vec(),
+        }
+    }
 }
 
-fn refusal(number: u32, place: usize) -> Reply {
-    Reply {
+fn refusal(number: u32, place: usize) -> Refusal {
+    Refusal {
         number,
-        value: place as u32,
+        place: place as u32,
     }
 }
 
@@ -158,8 +160,8 @@ fn number(field: &[u8], most: u32) -> Option<u32> {
     u32::try_from(value).ok().filter(|&value| value <= most)
 }
 
-/// The words of the frame and the number of orders, of the header.
-fn frame_and_length(header: &[u8]) -> Option<(u32, usize)> {
+/// The numbers of variables, temporaries and orders, of the header.
+fn sizes(header: &[u8]) -> Option<(u32, u32, usize)> {
     let [mark, variables, temporaries, orders] = fields(header)?;
     if mark != b"BOX" {
         return None;
@@ -167,7 +169,7 @@ fn frame_and_length(header: &[u8]) -> Option<(u32, usize)> {
     let variables = number(variables, MOST_VARIABLES)?;
     let temporaries = number(temporaries, MOST_TEMPORARIES)?;
     let length = number(orders, MOST_ORDERS as u32)?;
-    (length > 0).then_some((variables + temporaries + LINK_WORDS, length as usize))
+    (length > 0).then_some((variables, temporaries, length as usize))
 }
 
 /// The order of a good record.
@@ -228,7 +230,7 @@ fn with_nothing(name: &[u8]) -> Option<Name> {
 }
 
 /// The first order with a word or an address out of range is refused.
-fn check_operands(orders: &[Order], words: u32) -> Result<(), Reply> {
+fn check_operands(orders: &[Order], words: u32) -> Result<(), Refusal> {
     for (place, order) in orders.iter().enumerate() {
         match order.kind {
             Kind::Word if !(LINK_WORDS..words).contains(&order.number) => {
@@ -244,7 +246,7 @@ fn check_operands(orders: &[Order], words: u32) -> Result<(), Reply> {
 }
 
 /// The first STOP must be the last order.
-fn check_stop(orders: &[Order]) -> Result<(), Reply> {
+fn check_stop(orders: &[Order]) -> Result<(), Refusal> {
     let last = orders.len() - 1;
     match orders.iter().position(|order| order.name == Name::Stop) {
         Some(place) if place == last => Ok(()),

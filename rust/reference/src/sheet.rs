@@ -1,4 +1,4 @@
-//! Sheets: what they are, their text, and their fields in memory.
+//! Sheets: what they are, and their text.
 
 use std::fmt::Write;
 
@@ -81,7 +81,7 @@ pub struct Sheet {
 }
 
 /// A part of a line of sheet text. IF goes with its relation, SET with its word and GOTO with its
-/// instruction, so that each is one field in memory and two in the text.
+/// instruction, so that each is two fields of the text.
 #[derive(Clone, Copy, Debug, PartialEq, Eq)]
 pub enum Field {
     Else,
@@ -97,22 +97,6 @@ pub enum Field {
 }
 
 impl Field {
-    /// The field in memory: its kind and its value.
-    pub fn memory(self) -> (u8, u32) {
-        match self {
-            Field::Else => (0, 0),
-            Field::Then => (1, 0),
-            Field::Send => (2, 0),
-            Field::Sign(sign) => (3 + sign as u8, 0),
-            Field::Operator(operator) => (5 + operator as u8, 0),
-            Field::If(relation) => (15 + relation as u8, 0),
-            Field::Word(word) => (21, word),
-            Field::Constant(constant) => (22, constant),
-            Field::Set(word) => (23, word),
-            Field::Goto(instruction) => (24, instruction),
-        }
-    }
-
     /// Writes the field behind a tab, or two where it is two fields of the text.
     fn write(self, text: &mut String) {
         let written = match self {
@@ -200,12 +184,6 @@ impl Instruction {
 }
 
 impl Sheet {
-    /// The fields of all instructions in memory: the kinds and the values.
-    pub fn memory(&self) -> (Vec<u8>, Vec<u32>) {
-        let fields = self.instructions.iter().flat_map(Instruction::fields);
-        fields.map(Field::memory).unzip()
-    }
-
     /// The sheet text.
     pub fn text(&self) -> String {
         let mut text = format!("SHEET\t{}\t{}\n", self.variables, self.instructions.len());

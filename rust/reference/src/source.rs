@@ -10,6 +10,7 @@ mod program;
 pub mod tokens;
 
 use crate::sheet::Sheet;
+use crate::Refusal;
 use cells::Statements;
 use program::Program;
 
@@ -27,13 +28,6 @@ pub const NAME_MISUSED: u32 = 8;
 pub const LABEL_MISUSED: u32 = 9;
 pub const NO_END: u32 = 10;
 pub const OVER_LIMIT: u32 = 11;
-
-/// Document 01's number of a refusal, 1 to 11, and its place.
-#[derive(Clone, Copy, Debug, PartialEq, Eq, PartialOrd, Ord)]
-pub struct Refusal {
-    pub number: u32,
-    pub place: u32,
-}
 
 fn refuse<T>(number: u32, place: u32) -> Result<T, Refusal> {
     Err(Refusal { number, place })

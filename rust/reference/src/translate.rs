@@ -18,12 +18,6 @@ impl Translation {
     pub fn text(&self) -> String {
         object::text(self.variables, self.temporaries, &self.orders)
     }
-
-    /// The orders in memory: their numbers and their operands.
-    pub fn memory(&self) -> (Vec<u8>, Vec<u32>) {
-        let orders = self.orders.iter();
-        orders.map(|order| (order.code(), order.number)).unzip()
-    }
 }
 
 /// The translation, if V, T and N are within their limits.

@@ -4,11 +4,6 @@ use Rattle.call_compile.proofs.Sources.{refused-call, sheet-call, never
 use borrow.Author.Needs.{needs}
 use Rattle.call_compile.proofs.compile.Statement.{statement}
 use Rattle.call_compile.proofs.compile.Tie as tie
-use Rattle.call_compile.proofs.compile.Reads as reads
-use Rattle.call_compile.proofs.compile.Lts as lts
-use Rattle.call.proofs.reply.Reads as reply-reads
-use Rattle.call_compile.proofs.write_object.Reads as write-object-reads
-use Rattle.front_end.proofs.read.Reads as read-reads
 
 returns : tie.Need-returns
 returns c =

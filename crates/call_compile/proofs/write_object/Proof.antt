@@ -5,11 +5,6 @@ use Rattle.call_compile.proofs.Written.{whole-written, never-over}
 use borrow.Author.Needs.{needs}
 use Rattle.call_compile.proofs.write_object.Statement.{statement}
 use Rattle.call_compile.proofs.write_object.Tie as tie
-use Rattle.call_compile.proofs.write_object.Reads as reads
-use Rattle.call_compile.proofs.write_object.Lts as lts
-use Rattle.call.proofs.reply.Reads as reply-reads
-use Rattle.call_compile.proofs.write_orders.Reads as write-orders-reads
-use Rattle.translate.proofs.translate.Reads as translate-reads
 
 returns : tie.Need-returns
 returns c = λ s w v f.

@@ -5,10 +5,6 @@ use Rattle.call.proofs.Texts.{told-written}
 use borrow.Author.Needs.{needs}
 use Rattle.call_compile.proofs.write_orders.Statement.{statement}
 use Rattle.call_compile.proofs.write_orders.Tie as tie
-use Rattle.call_compile.proofs.write_orders.Reads as reads
-use Rattle.call_compile.proofs.write_orders.Lts as lts
-use Rattle.call.proofs.reply.Reads as reply-reads
-use Rattle.object_writer.proofs.write.Reads as write-reads
 
 returns : tie.Need-returns
 returns c =

@@ -6,11 +6,6 @@ use Rattle.call_read_back.proofs.Objects.{refused-call, good-call}
 use borrow.Author.Needs.{needs}
 use Rattle.call_read_back.proofs.read_back.Statement.{statement}
 use Rattle.call_read_back.proofs.read_back.Tie as tie
-use Rattle.call_read_back.proofs.read_back.Reads as reads
-use Rattle.call_read_back.proofs.read_back.Lts as lts
-use Rattle.call.proofs.refusal.Reads as refusal-reads
-use Rattle.call_read_back.proofs.write_sheet.Reads as write-sheet-reads
-use Rattle.object_reader.proofs.read.Reads as read-reads
 
 returns : tie.Need-returns
 returns c =

@@ -2,8 +2,6 @@ use Rattle.call_read_back.proofs.Fields.{none-left, rest-left}
 use borrow.Author.Needs.{needs}
 use Rattle.call_read_back.proofs.words_from.Statement.{statement}
 use Rattle.call_read_back.proofs.words_from.Tie as tie
-use Rattle.call_read_back.proofs.words_from.Reads as reads
-use Rattle.call_read_back.proofs.words_from.Lts as lts
 
 returns : tie.Need-returns
 returns c = let a = c .before .before .args in none-left (a .words .now) (a .from) (c .before .if1 .taken)

@@ -1,14 +1,9 @@
-use Rattle.order.specs.Order.{ordersFrom}
+use Rattle.order.specs.Memory.{ordersFrom}
 use mathlib.Core.Path.{refl}
 use Rattle.call_read_back.proofs.Objects.{sheet-call, missing-call}
 use borrow.Author.Needs.{needs}
 use Rattle.call_read_back.proofs.write_sheet.Statement.{statement}
 use Rattle.call_read_back.proofs.write_sheet.Tie as tie
-use Rattle.call_read_back.proofs.write_sheet.Reads as reads
-use Rattle.call_read_back.proofs.write_sheet.Lts as lts
-use Rattle.call.proofs.reply.Reads as reply-reads
-use Rattle.call_read_back.proofs.write_fields.Reads as write-fields-reads
-use Rattle.untranslate.proofs.untranslate.Reads as untranslate-reads
 
 returns : tie.Need-returns
 returns c = λ few many.

@@ -1,9 +1,10 @@
 use borrow.Author.Needs.{needs}
 use Prim.Native.Nat.{_-_}
-use mathlib.Core.Path.{_≡_, refl, sym, _∙_}
+use mathlib.Core.Path.{_≡_, refl, sym, ap, _∙_}
 use native.Mathlib.Omega.{arith}
 use lib.ListN.{length, drop}
 use Rattle.source.specs.Source.{notAllowed}
+use Rattle.cells.specs.Answers.{foundOf}
 use Rattle.cells.proofs.Bytes.{allowed-turn, not-allowed-here, all-allowed}
 use Rattle.cells.proofs.not_allowed.Statement.{statement}
 use Rattle.cells.proofs.not_allowed.Tie as tie
@@ -27,10 +28,10 @@ returns : tie.Need-returns Inv-loop μ-loop
 returns c =
     let at-loop-test = c .before .before .before in
     let at-loop = at-loop-test .before in
-    not-allowed-here _ _ (at-loop-test .loop-test .taken) (sym (c .before .is-allowed .ensures) ∙ c .if1 .left) ∙ at-loop .loop .inv
+    ap foundOf (not-allowed-here _ _ (at-loop-test .loop-test .taken) (sym (c .before .is-allowed .ensures) ∙ c .if1 .left) ∙ at-loop .loop .inv)
 
 returns-2 : tie.Need-returns-2 Inv-loop μ-loop
-returns-2 c = all-allowed _ _ (c .loop-test .left) ∙ c .before .loop .inv
+returns-2 c = ap foundOf (all-allowed _ _ (c .loop-test .left) ∙ c .before .loop .inv)
 
 pub not-allowed-spec : {M : Type 1} → statement M
 not-allowed-spec =

@@ -4,7 +4,7 @@ use native.Mathlib.Omega.{arith}
 use Rattle.sheet_field.specs.Memory.{fieldsFrom}
 use Rattle.base.specs.Places.{each}
 use Rattle.fields.specs.Internal.{fieldIn, goodJump}
-use Rattle.fields.specs.Answers.{jumpOf}
+use Rattle.fields.specs.Memory.{jumpOf}
 use Rattle.fields.proofs.FieldTurns.{every, jumps-every, every-first, every-turn, every-fails, every-over}
 use borrow.Author.Needs.{needs}
 use Rattle.fields.proofs.good_jumps.Statement.{statement}

@@ -2,8 +2,8 @@ use mathlib.Core.Path.{refl, sym, ap, _∙_}
 use lib.ListN.{length-set}
 use lib.Seq.{getD-set-same, getD-set-other}
 use Rattle.fields.specs.Internal.{fieldIn}
-use Rattle.labels.specs.Answers.{labelsOf}
-use Rattle.fields.specs.Answers.{jumpOf}
+use Rattle.labels.specs.Memory.{labelsOf}
+use Rattle.fields.specs.Memory.{jumpOf}
 use Rattle.fields.proofs.FieldTurns.{goto-again, lead-none, lead-unset, lead-set}
 use borrow.Author.Needs.{needs}
 use Rattle.fields.proofs.lead_jump.Statement.{statement}

@@ -1,13 +1,13 @@
 use Prim.Native.Nat.{_-_, _≤_}
-use mathlib.Core.Path.{_≡_, refl, _∙_}
+use mathlib.Core.Path.{_≡_, refl, sym, ap, _∙_}
 use native.Mathlib.Omega.{arith}
 use lib.ListN.{length}
 use Rattle.sheet_field.specs.Memory.{fieldsFrom}
 use Rattle.base.specs.Places.{each}
 use Rattle.fields.specs.Internal.{fieldIn}
-use Rattle.labels.specs.Answers.{labelsOf}
-use Rattle.fields.specs.Answers.{ledAll}
-use Rattle.fields.proofs.FieldTurns.{prefixed, lead-first, led-turn, led-fails, lead-over}
+use Rattle.labels.specs.Memory.{labelsOf}
+use Rattle.fields.specs.Answers.{told, ledAll}
+use Rattle.fields.proofs.FieldTurns.{prefixed, lead-first, led-turn, led-fails, lead-over, led-fit, led-unfit}
 use Rattle.base.proofs.Places.{inside}
 use borrow.Author.Needs.{needs}
 use Rattle.fields.proofs.lead_jumps.Statement.{statement}
@@ -19,38 +19,28 @@ Inv-loop kinds values₀ n labels count i₀ values i = (length values ≡ lengt
 abbrev μ-loop : tie.MeasureT-loop
 μ-loop kinds values₀ n labels count i₀ values i = n - i
 
+returns : tie.Need-returns Inv-loop μ-loop
+returns c = let a = c .before .before .before .before .args in (led-unfit (labelsOf (a .count) (a .labels .now)) (a .n) (a .kinds .now) (a .values .now) (c .if1 .taken), refl)
+
 loop-holds : tie.Need-loop-holds Inv-loop μ-loop
-loop-holds c = let a = c .before .before .before .args in (refl, omega arith, λ room. lead-first (labelsOf (a .count) (a .labels .now)) (a .kinds .now) (a .values .now) (a .n))
-
-lead-jump-requires : tie.Need-lead-jump-requires Inv-loop μ-loop
-lead-jump-requires c κs = search needs
-
-enum-known-k : tie.Need-enum-known-k Inv-loop μ-loop
-enum-known-k c = search needs
+loop-holds c = let a = c .before .before .before .before .args in (refl, omega arith, λ room. lead-first (labelsOf (a .count) (a .labels .now)) (a .kinds .now) (a .values .now) (a .n))
 
 same-length : tie.Need-same-length Inv-loop μ-loop
-same-length c =
-    c .before .before .before .before .before .lead-jump .ensures .kept ∙ c .before .before .before .before .before .before .before .before .loop .inv .0
+same-length c = c .before .before .before .before .before .lead-jump .ensures .kept ∙ c .before .before .before .before .before .before .before .before .loop .inv .0
 
-returns : tie.Need-returns Inv-loop μ-loop
-returns c =
-    let a = c .before .before .before .before .before .before .before .before .before .before .before .before .args in
+returns-2 : tie.Need-returns-2 Inv-loop μ-loop
+returns-2 c =
+    let a = c .before .before .before .before .before .before .before .before .before .before .before .before .before .args in
     let l = c .before .before .before .before .before .before .before .before .loop in
     let t = c .before .before .before .before .before .before .before .loop-test .taken in
-    λ room. led-fails (a .n) _ (c .before .before .before .before .before .lead-jump .ensures) (c .before .k .given .1) t (inside (l .inv .0) room t) ∙ l .inv .2 room
-
-enum-told : tie.Need-enum-told Inv-loop μ-loop
-enum-told c = search needs
-
-add-i : tie.Need-add-i Inv-loop μ-loop
-add-i c = search needs
-
-loop-less : tie.Need-loop-less Inv-loop μ-loop
-loop-less c = omega arith
+    let room = c .before .before .before .before .before .before .before .before .before .if1 .left in (
+      ap told (led-fails (a .n) _ (c .before .before .before .before .before .lead-jump .ensures) (c .before .k .given .1) t (inside (l .inv .0) room t) ∙ l .inv .2 room) ∙ sym (led-fit (labelsOf (a .count) (a .labels .now)) (a .n) (a .kinds .now) (a .values .now) room),
+      c .before .before .before .before .before .lead-jump .ensures .kept ∙ l .inv .0,
+    )
 
 loop-again : tie.Need-loop-again Inv-loop μ-loop
 loop-again c =
-    let a = c .before .before .before .before .before .before .before .before .before .before .before .args in
+    let a = c .before .before .before .before .before .before .before .before .before .before .before .before .args in
     let l = c .before .before .before .before .before .before .before .loop in
     let t = c .before .before .before .before .before .before .loop-test .taken in
     let one = c .before .before .before .before .lead-jump .ensures in (
@@ -62,11 +52,14 @@ loop-again c =
 same-length-2 : tie.Need-same-length-2 Inv-loop μ-loop
 same-length-2 c = c .before .loop .inv .0
 
-returns-2 : tie.Need-returns-2 Inv-loop μ-loop
-returns-2 c =
-    let a = c .before .before .before .before .before .args in
+returns-3 : tie.Need-returns-3 Inv-loop μ-loop
+returns-3 c =
+    let a = c .before .before .before .before .before .before .args in
     let l = c .before .loop in
-    λ room. lead-over (labelsOf (a .count) (a .labels .now)) (a .kinds .now) (l .values) (a .n) (l .i) (l .inv .1) (c .loop-test .left) ∙ l .inv .2 room
+    let room = c .before .before .if1 .left in (
+      ap told (lead-over (labelsOf (a .count) (a .labels .now)) (a .kinds .now) (l .values) (a .n) (l .i) (l .inv .1) (c .loop-test .left) ∙ l .inv .2 room) ∙ sym (led-fit (labelsOf (a .count) (a .labels .now)) (a .n) (a .kinds .now) (a .values .now) room),
+      l .inv .0,
+    )
 
 pub lead-jumps-spec : {M : Type 1} → statement M
 lead-jumps-spec =
@@ -74,14 +67,15 @@ lead-jumps-spec =
     (tie.spec
     Inv-loop
     μ-loop
-    loop-holds
-    lead-jump-requires
-    enum-known-k
-    same-length
     returns
-    enum-told
-    add-i
-    loop-less
+    loop-holds
+    (λ c κs. search needs)
+    (λ c. search needs)
+    same-length
+    returns-2
+    (λ c. search needs)
+    (λ c. search needs)
+    (λ c. omega arith)
     loop-again
     same-length-2
-    returns-2)
+    returns-3)

@@ -19,12 +19,12 @@ returns-3 c =
     )
 
 cast-t10 : tie.Need-cast-t10
-cast-t10 c = record { fits = small-offset (c .before .before .before .before .before .before .before .before .before .before .args .source .now) _ (c .before .before .before .not-allowed .ensures) (c .before .i .given .1) (c .before .before .before .before .if3 .left) }
+cast-t10 c = record { fits = small-offset (c .before .before .before .before .before .before .before .before .before .before .args .source .now) (c .before .before .before .not-allowed .result) _ (c .before .before .before .not-allowed .ensures) (c .before .i .given .1) (c .before .before .before .before .if3 .left) }
 
 returns-4 : tie.Need-returns-4
 returns-4 c =
     let a = c .before .before .before .before .before .before .before .before .before .before .args in (
-      not-a-byte (a .source .now) (c .before .before .before .before .if3 .left) (c .before .before .before .not-allowed .ensures) _ (c .before .i .given .1)
+      not-a-byte (a .source .now) (c .before .before .before .before .if3 .left) (c .before .before .before .not-allowed .result) (c .before .before .before .not-allowed .ensures) _ (c .before .i .given .1)
           ∙ sym (both-fit (a .source .now) (a .kinds .now) (a .values .now) (c .before .before .before .before .before .before .if1 .left) (c .before .before .before .before .before .if2 .left)),
       (refl, refl),
     )
@@ -34,7 +34,7 @@ returns-5 c =
     let a = c .before .before .before .before .before .before .before .before .before .before .before .before .before .before .before .before .before .before .before .before .args in
     let rest = c .before .before .before .before .before .before .read-statements in (
       rest .ensures
-          ∙ all-bytes (a .source .now) (c .before .before .before .before .before .before .before .before .before .before .before .before .before .before .if3 .left) (c .before .before .before .before .before .before .before .before .before .before .before .before .before .not-allowed .ensures) (c .before .before .before .before .before .before .before .before .before .before .before .enum-told .given .1)
+          ∙ all-bytes (a .source .now) (c .before .before .before .before .before .before .before .before .before .before .before .before .before .before .if3 .left) (c .before .before .before .before .before .before .before .before .before .before .before .before .before .not-allowed .result) (c .before .before .before .before .before .before .before .before .before .before .before .before .before .not-allowed .ensures) (c .before .before .before .before .before .before .before .before .before .before .before .enum-told .given .1)
           ∙ sym (both-fit (a .source .now) (a .kinds .now) (a .values .now) (c .before .before .before .before .before .before .before .before .before .before .before .before .before .before .before .before .if1 .left) (c .before .before .before .before .before .before .before .before .before .before .before .before .before .before .before .if2 .left)),
       (rest .kept .1 .1 .1 .0, rest .kept .1 .1 .1 .1 .0),
     )

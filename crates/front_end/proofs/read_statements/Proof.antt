@@ -1,9 +1,9 @@
 use Prim.Native.Nat.{_+_, _-_}
-use mathlib.Core.Path.{_≡_, refl}
+use mathlib.Core.Path.{_≡_, refl, _∙_}
 use native.Mathlib.Omega.{arith}
 use lib.ListN.{length}
 use Rattle.front_end.specs.Internal.{Going}
-use Rattle.front_end.proofs.Statements.{starting, few-counts, none-left, next-cut, is-refused, is-given, is-further, moved-to, few-statements}
+use Rattle.front_end.proofs.Statements.{starting, few-counts, none-left, next-cut, is-refused, is-given, never-unfit, is-further, moved-to, few-statements}
 use borrow.Author.Needs.{needs}
 use Rattle.front_end.proofs.read_statements.Statement.{statement}
 use Rattle.front_end.proofs.read_statements.Tie as tie
@@ -14,56 +14,17 @@ Inv-loop source names₀ labels₀ kinds₀ values₀ at₀ k₀ p₀ names labe
 abbrev μ-loop : tie.MeasureT-loop
 μ-loop source names₀ labels₀ kinds₀ values₀ at₀ k₀ p₀ names labels kinds values at k p = length source + 1 - at
 
-nothing-read-requires : tie.Need-nothing-read-requires Inv-loop μ-loop
-nothing-read-requires c κs = search needs
-
 loop-holds : tie.Need-loop-holds Inv-loop μ-loop
 loop-holds c = (refl, refl, refl, refl, rw (c .nothing-read .ensures) (starting (c .before .before .before .before .before .before .pre)))
 
-next-statement-requires : tie.Need-next-statement-requires Inv-loop μ-loop
-next-statement-requires c κs = search needs
-
-enum-told : tie.Need-enum-told Inv-loop μ-loop
-enum-told c = search needs
-
-same-length : tie.Need-same-length Inv-loop μ-loop
-same-length c = search needs
-
-same-length-2 : tie.Need-same-length-2 Inv-loop μ-loop
-same-length-2 c = search needs
-
-same-length-3 : tie.Need-same-length-3 Inv-loop μ-loop
-same-length-3 c = search needs
-
-same-length-4 : tie.Need-same-length-4 Inv-loop μ-loop
-same-length-4 c = search needs
-
 returns : tie.Need-returns Inv-loop μ-loop
-returns c = none-left (c .before .before .before .before .loop .inv .4) (c .before .before .next-statement .result) (c .before .before .next-statement .ensures .0) (c .enum-told .given .1)
-
-enum-known-reading : tie.Need-enum-known-reading Inv-loop μ-loop
-enum-known-reading c = search needs
+returns c = let next = c .before .before .next-statement in none-left (c .before .before .before .before .loop .inv .4) (next .result) (next .ensures .0) (c .enum-told .given .1)
 
 add-t18 : tie.Need-add-t18 Inv-loop μ-loop
 add-t18 c = let h = few-statements (c .before .before .before .before .before .loop .inv .4) (c .before .before .before .before .before .before .before .before .before .before .before .before .pre .few-bytes) in search needs
 
-same-length-5 : tie.Need-same-length-5 Inv-loop μ-loop
-same-length-5 c = search needs
-
-same-length-6 : tie.Need-same-length-6 Inv-loop μ-loop
-same-length-6 c = search needs
-
-same-length-7 : tie.Need-same-length-7 Inv-loop μ-loop
-same-length-7 c = search needs
-
-same-length-8 : tie.Need-same-length-8 Inv-loop μ-loop
-same-length-8 c = search needs
-
 returns-2 : tie.Need-returns-2 Inv-loop μ-loop
-returns-2 c = next-cut (c .before .before .before .before .before .loop .inv .4) (c .before .before .before .next-statement .result) (c .before .before .before .next-statement .ensures .0) _ (c .before .reading .given .1)
-
-enum-known-reading-2 : tie.Need-enum-known-reading-2 Inv-loop μ-loop
-enum-known-reading-2 c = search needs
+returns-2 c = let next = c .before .before .before .next-statement in next-cut (c .before .before .before .before .before .loop .inv .4) (next .result) (next .ensures .0) _ (c .before .reading .given .1)
 
 add-k : tie.Need-add-k Inv-loop μ-loop
 add-k c = let h = few-statements (c .before .before .before .before .before .loop .inv .4) (c .before .before .before .before .before .before .before .before .before .before .before .before .pre .few-bytes) in search needs
@@ -71,82 +32,60 @@ add-k c = let h = few-statements (c .before .before .before .before .before .loo
 statement-requires : tie.Need-statement-requires Inv-loop μ-loop
 statement-requires c κs = few-counts (c .before .before .before .before .before .before .before .before .before .loop .inv .4 .holds)
 
-enum-known-n : tie.Need-enum-known-n Inv-loop μ-loop
-enum-known-n c = search needs
-
 loop-less : tie.Need-loop-less Inv-loop μ-loop
 loop-less c =
-    let w = moved-to (c .before .before .before .before .before .before .before .before .before .before .before .before .before .before .before .before .before .before .before .next-statement .result) _ (c .before .before .before .before .before .before .before .before .before .before .before .before .before .before .before .before .before .before .before .next-statement .ensures .1) (c .before .before .before .before .before .before .before .before .before .before .before .before .before .before .before .before .before .reading2 .given .1) in
-    let a = w .forward in
-    let b = w .inside in
-    omega (arith, a, b)
+    let next = c .before .before .before .before .before .before .before .before .before .before .before .before .before .before .before .before .before .before .before .next-statement in
+    let w = moved-to (next .result) _ (next .ensures .1) (c .before .before .before .before .before .before .before .before .before .before .before .before .before .before .before .before .before .reading2 .given .1) in
+    omega (arith, w .forward, w .inside)
 
 loop-again : tie.Need-loop-again Inv-loop μ-loop
 loop-again c =
-    let w = moved-to (c .before .before .before .before .before .before .before .before .before .before .before .before .before .before .before .before .before .before .before .next-statement .result) _ (c .before .before .before .before .before .before .before .before .before .before .before .before .before .before .before .before .before .before .before .next-statement .ensures .1) (c .before .before .before .before .before .before .before .before .before .before .before .before .before .before .before .before .before .reading2 .given .1) in (
-      search needs,
-      search needs,
-      search needs,
-      search needs,
-      is-further (c .before .before .before .before .before .before .before .before .before .before .before .before .before .before .before .before .before .before .before .before .before .loop .inv .4) (c .before .before .before .before .before .before .before .before .before .before .before .before .before .before .before .before .before .before .before .next-statement .result) (c .before .before .before .before .before .before .before .before .before .before .before .before .before .before .before .before .before .before .before .next-statement .ensures .0) _ (c .before .before .before .before .before .before .before .before .before .before .before .before .before .before .before .before .before .reading2 .given .1) (c .before .before .before .before .before .before .before .before .before .before .before .statement .ensures (moved-to (c .before .before .before .before .before .before .before .before .before .before .before .before .before .before .before .before .before .before .before .next-statement .result) _ (c .before .before .before .before .before .before .before .before .before .before .before .before .before .before .before .before .before .before .before .next-statement .ensures .1) (c .before .before .before .before .before .before .before .before .before .before .before .before .before .before .before .before .before .reading2 .given .1) .few) (c .before .before .before .before .before .before .before .before .before .before .before .before .before .before .before .before .before .before .before .before .before .loop .inv .4 .so-far) (c .before .before .before .before .before .before .before .before .before .before .before .before .before .before .before .before .before .before .before .before .before .loop .inv .4 .holds) (few-statements (c .before .before .before .before .before .before .before .before .before .before .before .before .before .before .before .before .before .before .before .before .before .loop .inv .4) (c .before .before .before .before .before .before .before .before .before .before .before .before .before .before .before .before .before .before .before .before .before .before .before .before .before .before .before .before .pre .few-bytes))) _ (c .before .n .given .1) (w .forward) (w .inside),
+    let g = c .before .before .before .before .before .before .before .before .before .before .before .before .before .before .before .before .before .before .before .before .before .loop .inv .4 in
+    let next = c .before .before .before .before .before .before .before .before .before .before .before .before .before .before .before .before .before .before .before .next-statement in
+    let z = c .before .before .before .before .before .before .before .before .before .before .before .before .before .before .before .before .before .reading2 .given .1 in
+    let w = moved-to (next .result) _ (next .ensures .1) z in
+    let one = c .before .before .before .before .before .before .before .before .before .before .before .statement .ensures .short (w .few) (g .so-far) (g .holds) (few-statements g (c .before .before .before .before .before .before .before .before .before .before .before .before .before .before .before .before .before .before .before .before .before .before .before .before .before .before .before .before .pre .few-bytes)) in
+    let kept = c .before .before .before .before .before .before .before .before .before .before .before .statement .kept .1 .1 .1 in
+    let same = c .before .before .before .before .before .before .before .before .before .before .before .before .before .before .before .before .before .before .before .before .before .loop .inv in (
+      kept .0 ∙ same .0,
+      kept .1 .0 ∙ same .1,
+      kept .1 .1 .0 ∙ same .2,
+      kept .1 .1 .1 .0 ∙ same .3,
+      is-further g (next .result) (next .ensures .0) _ z one _ (c .before .n .given .1) (w .forward) (w .inside),
     )
 
-enum-known-n-2 : tie.Need-enum-known-n-2 Inv-loop μ-loop
-enum-known-n-2 c = search needs
-
-same-length-9 : tie.Need-same-length-9 Inv-loop μ-loop
-same-length-9 c = search needs
-
-same-length-10 : tie.Need-same-length-10 Inv-loop μ-loop
-same-length-10 c = search needs
-
-same-length-11 : tie.Need-same-length-11 Inv-loop μ-loop
-same-length-11 c = search needs
-
-same-length-12 : tie.Need-same-length-12 Inv-loop μ-loop
-same-length-12 c = search needs
-
 returns-3 : tie.Need-returns-3 Inv-loop μ-loop
-returns-3 c = is-refused (c .before .before .before .before .before .before .before .before .before .before .before .before .before .before .before .before .before .before .before .before .before .loop .inv .4) (c .before .before .before .before .before .before .before .before .before .before .before .before .before .before .before .before .before .before .before .next-statement .result) (c .before .before .before .before .before .before .before .before .before .before .before .before .before .before .before .before .before .before .before .next-statement .ensures .0) _ (c .before .before .before .before .before .before .before .before .before .before .before .before .before .before .before .before .before .reading2 .given .1) (c .before .before .before .before .before .before .before .before .before .before .before .statement .ensures (moved-to (c .before .before .before .before .before .before .before .before .before .before .before .before .before .before .before .before .before .before .before .next-statement .result) _ (c .before .before .before .before .before .before .before .before .before .before .before .before .before .before .before .before .before .before .before .next-statement .ensures .1) (c .before .before .before .before .before .before .before .before .before .before .before .before .before .before .before .before .before .reading2 .given .1) .few) (c .before .before .before .before .before .before .before .before .before .before .before .before .before .before .before .before .before .before .before .before .before .loop .inv .4 .so-far) (c .before .before .before .before .before .before .before .before .before .before .before .before .before .before .before .before .before .before .before .before .before .loop .inv .4 .holds) (few-statements (c .before .before .before .before .before .before .before .before .before .before .before .before .before .before .before .before .before .before .before .before .before .loop .inv .4) (c .before .before .before .before .before .before .before .before .before .before .before .before .before .before .before .before .before .before .before .before .before .before .before .before .before .before .before .before .pre .few-bytes))) _ _ (c .before .n2 .given .1)
-
-enum-told-2 : tie.Need-enum-told-2 Inv-loop μ-loop
-enum-told-2 c = search needs
-
-cast-t28 : tie.Need-cast-t28 Inv-loop μ-loop
-cast-t28 c = search needs
+returns-3 c =
+    let g = c .before .before .before .before .before .before .before .before .before .before .before .before .before .before .before .before .before .before .before .before .before .loop .inv .4 in
+    let next = c .before .before .before .before .before .before .before .before .before .before .before .before .before .before .before .before .before .before .before .next-statement in
+    let z = c .before .before .before .before .before .before .before .before .before .before .before .before .before .before .before .before .before .reading2 .given .1 in
+    let w = moved-to (next .result) _ (next .ensures .1) z in
+    let one = c .before .before .before .before .before .before .before .before .before .before .before .statement .ensures .short (w .few) (g .so-far) (g .holds) (few-statements g (c .before .before .before .before .before .before .before .before .before .before .before .before .before .before .before .before .before .before .before .before .before .before .before .before .before .before .before .before .pre .few-bytes)) in
+    is-refused g (next .result) (next .ensures .0) _ z one _ _ (c .before .n2 .given .1)
 
 cast-t29 : tie.Need-cast-t29 Inv-loop μ-loop
 cast-t29 c = let h = few-counts (c .before .before .before .before .before .before .before .before .before .before .before .before .before .before .before .before .before .before .before .before .before .before .loop .inv .4 .holds) .1 in record { fits = omega (arith, h) }
 
-same-length-13 : tie.Need-same-length-13 Inv-loop μ-loop
-same-length-13 c = search needs
-
-same-length-14 : tie.Need-same-length-14 Inv-loop μ-loop
-same-length-14 c = search needs
-
-same-length-15 : tie.Need-same-length-15 Inv-loop μ-loop
-same-length-15 c = search needs
-
-same-length-16 : tie.Need-same-length-16 Inv-loop μ-loop
-same-length-16 c = search needs
-
 returns-4 : tie.Need-returns-4 Inv-loop μ-loop
-returns-4 c = is-given (c .before .before .before .before .before .before .before .before .before .before .before .before .before .before .before .before .before .before .before .before .before .before .loop .inv .4) (c .before .before .before .before .before .before .before .before .before .before .before .before .before .before .before .before .before .before .before .before .next-statement .result) (c .before .before .before .before .before .before .before .before .before .before .before .before .before .before .before .before .before .before .before .before .next-statement .ensures .0) _ (c .before .before .before .before .before .before .before .before .before .before .before .before .before .before .before .before .before .before .reading2 .given .1) (c .before .before .before .before .before .before .before .before .before .before .before .before .statement .ensures (moved-to (c .before .before .before .before .before .before .before .before .before .before .before .before .before .before .before .before .before .before .before .before .next-statement .result) _ (c .before .before .before .before .before .before .before .before .before .before .before .before .before .before .before .before .before .before .before .before .next-statement .ensures .1) (c .before .before .before .before .before .before .before .before .before .before .before .before .before .before .before .before .before .before .reading2 .given .1) .few) (c .before .before .before .before .before .before .before .before .before .before .before .before .before .before .before .before .before .before .before .before .before .before .loop .inv .4 .so-far) (c .before .before .before .before .before .before .before .before .before .before .before .before .before .before .before .before .before .before .before .before .before .before .loop .inv .4 .holds) (few-statements (c .before .before .before .before .before .before .before .before .before .before .before .before .before .before .before .before .before .before .before .before .before .before .loop .inv .4) (c .before .before .before .before .before .before .before .before .before .before .before .before .before .before .before .before .before .before .before .before .before .before .before .before .before .before .before .before .before .pre .few-bytes))) (c .before .before .enum-told2 .given .1)
-
-same-length-17 : tie.Need-same-length-17 Inv-loop μ-loop
-same-length-17 c = search needs
-
-same-length-18 : tie.Need-same-length-18 Inv-loop μ-loop
-same-length-18 c = search needs
-
-same-length-19 : tie.Need-same-length-19 Inv-loop μ-loop
-same-length-19 c = search needs
-
-same-length-20 : tie.Need-same-length-20 Inv-loop μ-loop
-same-length-20 c = search needs
+returns-4 c =
+    let g = c .before .before .before .before .before .before .before .before .before .before .before .before .before .before .before .before .before .before .before .before .before .before .loop .inv .4 in
+    let next = c .before .before .before .before .before .before .before .before .before .before .before .before .before .before .before .before .before .before .before .before .next-statement in
+    let z = c .before .before .before .before .before .before .before .before .before .before .before .before .before .before .before .before .before .before .reading2 .given .1 in
+    let w = moved-to (next .result) _ (next .ensures .1) z in
+    let one = c .before .before .before .before .before .before .before .before .before .before .before .before .statement .ensures .short (w .few) (g .so-far) (g .holds) (few-statements g (c .before .before .before .before .before .before .before .before .before .before .before .before .before .before .before .before .before .before .before .before .before .before .before .before .before .before .before .before .before .pre .few-bytes)) in
+    is-given g (next .result) (next .ensures .0) _ z one (c .before .before .enum-told2 .given .1)
 
 returns-5 : tie.Need-returns-5 Inv-loop μ-loop
-returns-5 c = let g = c .before .loop .inv .4 .inside in let t = c .loop-test .left in absurd (omega (arith, g, t))
+returns-5 c =
+    let g = c .before .before .before .before .before .before .before .before .before .before .before .before .before .before .before .before .before .before .before .before .loop .inv .4 in
+    let next = c .before .before .before .before .before .before .before .before .before .before .before .before .before .before .before .before .before .before .next-statement in
+    let z = c .before .before .before .before .before .before .before .before .before .before .before .before .before .before .before .before .reading2 .given .1 in
+    let w = moved-to (next .result) _ (next .ensures .1) z in
+    let one = c .before .before .before .before .before .before .before .before .before .before .statement .ensures .short (w .few) (g .so-far) (g .holds) (few-statements g (c .before .before .before .before .before .before .before .before .before .before .before .before .before .before .before .before .before .before .before .before .before .before .before .before .before .before .before .pre .few-bytes)) in
+    never-unfit g (next .result) (next .ensures .0) _ z one (c .enum-told3 .given .1)
+
+returns-6 : tie.Need-returns-6 Inv-loop μ-loop
+returns-6 c = let g = c .before .loop .inv .4 .inside in let t = c .loop-test .left in absurd (omega (arith, g, t))
 
 pub read-statements-spec : {M : Type 1} → statement M
 read-statements-spec =
@@ -154,44 +93,50 @@ read-statements-spec =
     (tie.spec
     Inv-loop
     μ-loop
-    nothing-read-requires
+    (λ c κs. search needs)
     loop-holds
-    next-statement-requires
-    enum-told
-    same-length
-    same-length-2
-    same-length-3
-    same-length-4
+    (λ c κs. search needs)
+    (λ c. search needs)
+    (λ c. search needs)
+    (λ c. search needs)
+    (λ c. search needs)
+    (λ c. search needs)
     returns
-    enum-known-reading
+    (λ c. search needs)
     add-t18
-    same-length-5
-    same-length-6
-    same-length-7
-    same-length-8
+    (λ c. search needs)
+    (λ c. search needs)
+    (λ c. search needs)
+    (λ c. search needs)
     returns-2
-    enum-known-reading-2
+    (λ c. search needs)
     add-k
     statement-requires
-    enum-known-n
+    (λ c. search needs)
     loop-less
     loop-again
-    enum-known-n-2
-    same-length-9
-    same-length-10
-    same-length-11
-    same-length-12
+    (λ c. search needs)
+    (λ c. search needs)
+    (λ c. search needs)
+    (λ c. search needs)
+    (λ c. search needs)
     returns-3
-    enum-told-2
-    cast-t28
+    (λ c. search needs)
+    (λ c. search needs)
     cast-t29
-    same-length-13
-    same-length-14
-    same-length-15
-    same-length-16
+    (λ c. search needs)
+    (λ c. search needs)
+    (λ c. search needs)
+    (λ c. search needs)
     returns-4
-    same-length-17
-    same-length-18
-    same-length-19
-    same-length-20
-    returns-5)
+    (λ c. search needs)
+    (λ c. search needs)
+    (λ c. search needs)
+    (λ c. search needs)
+    (λ c. search needs)
+    returns-5
+    (λ c. search needs)
+    (λ c. search needs)
+    (λ c. search needs)
+    (λ c. search needs)
+    returns-6)

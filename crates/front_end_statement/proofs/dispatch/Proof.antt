@@ -1,6 +1,6 @@
 use Rattle.front_end_statement.proofs.Forms.{on-begin, on-declaration, on-end, on-labels, on-instruction, on-nothing, told-begin}
 use Rattle.front_end_statement.proofs.Forms.{told-declaration, told-end, told-nothing, told-labels, told-instruction, few-labels-told}
-use Rattle.front_end_statement.proofs.Forms.{few-labels-before, few-fields-told, short-fields, is-declaration}
+use Rattle.front_end_statement.proofs.Forms.{told-unfit, never-unfit, few-labels-before, few-fields-told, short-fields, is-declaration}
 use borrow.Author.Needs.{needs}
 use Rattle.front_end_statement.proofs.dispatch.Statement.{statement}
 use Rattle.front_end_statement.proofs.dispatch.Tie as tie
@@ -8,7 +8,7 @@ use Rattle.front_end_statement.proofs.dispatch.Tie as tie
 instruction-requires : tie.Need-instruction-requires
 instruction-requires c κs =
     let p = c .before .before .before .before .before .before .before .before .before .before .before .before .before .before .before .before .pre in
-    (p .0 .0, p .0 .1, p .0 .2, few-fields-told (c .before .before .before .before .before .before .before .before .before .before .before .before .before .before .before .before .args .n) (p .1) (p .2) _ _ (c .before .before .before .before .form2 .given .1))
+    (p .0, few-fields-told (c .before .before .before .before .before .before .before .before .before .before .before .before .before .before .before .before .args .n) (p .1) (p .2) _ _ (c .before .before .before .before .form2 .given .1))
 
 returns : tie.Need-returns
 returns c =
@@ -51,7 +51,13 @@ returns-6 : tie.Need-returns-6
 returns-6 c =
     let a = c .before .before .before .before .before .before .before .before .before .before .before .before .args in
     λ g e few q h small.
-    on-nothing q (a .k) _ g (told-nothing (a .n) (a .tokens .now) (a .words .now) (a .own .now) (a .carried .now) g e (c .enum-told4 .given .1))
+    on-nothing q (a .k) _ g 7 (told-nothing (a .n) (a .tokens .now) (a .words .now) (a .own .now) (a .carried .now) g e (c .enum-told4 .given .1))
+
+returns-7 : tie.Need-returns-7
+returns-7 c =
+    let a = c .before .before .before .before .before .before .before .before .before .before .before .before .args in
+    λ g e few q h small.
+    never-unfit g (told-unfit (a .n) (a .tokens .now) (a .words .now) (a .own .now) (a .carried .now) g e (c .enum-told5 .given .1))
 
 pub dispatch-spec : {M : Type 1} → statement M
 dispatch-spec =
@@ -68,6 +74,7 @@ dispatch-spec =
     (λ c. search needs)
     instruction-requires
     (λ c. search needs)
+    (λ c. search needs)
     returns
     (λ c. search needs)
     returns-2
@@ -81,4 +88,5 @@ dispatch-spec =
     (λ c. search needs)
     (λ c. search needs)
     returns-5
-    returns-6)
+    returns-6
+    returns-7)

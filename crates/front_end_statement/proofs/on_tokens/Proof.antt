@@ -1,3 +1,5 @@
+use mathlib.Core.Path.{_∙_}
+use Rattle.grammar.proofs.Statements.{form-fit}
 use Rattle.front_end_statement.proofs.Forms.{looked-up, by-tokens, few-names-told}
 use borrow.Author.Needs.{needs}
 use Rattle.front_end_statement.proofs.on_tokens.Statement.{statement}
@@ -8,9 +10,9 @@ returns c =
     let a = c .before .before .before .before .before .before .before .before .before .before .before .before .before .before .before .before .before .before .before .before .before .before .before .before .before .before .before .before .before .before .before .before .before .args in
     let short = c .before .before .before .before .before .before .before .before .before .before .before .before .before .before .before .before .before .before .before .before .before .before .before .before .before .before .before .before .before .before .before .before .before .pre .1 in
     λ q h small.
-    let same = looked-up q (a .n) (a .cells .now) (a .tokens .now) (a .spelled .now) (c .before .before .before .before .before .before .before .before .before .before .before .before .before .before .before .before .before .before .before .before .before .before .before .look-up .ensures .0 short) (h .named) in
+    let same = looked-up q (a .n) 256 (a .cells .now) (a .tokens .now) (a .spelled .now) _ (c .before .before .before .before .before .before .before .before .before .before .before .before .before .before .before .before .before .before .before .before .before .before .before .look-up .ensures .0) short (h .named) in
     by-tokens q (a .k) (a .n) (a .cells .now) (a .tokens .now) (a .spelled .now) _ short same
-    (c .before .before .before .before .before .before .before .before .dispatch .ensures _ (c .before .before .before .before .before .before .before .before .before .before .before .before .before .before .before .before .before .before .form-of .ensures .0 short short short) (few-names-told q (a .k) (a .n) (a .cells .now) (a .tokens .now) (a .spelled .now) _ short same) q h small)
+    (c .before .before .before .before .before .before .before .before .dispatch .ensures _ (c .before .before .before .before .before .before .before .before .before .before .before .before .before .before .before .before .before .before .form-of .ensures .0 ∙ form-fit _ _ _ _ short short short) (few-names-told q (a .k) (a .n) (a .cells .now) (a .tokens .now) (a .spelled .now) _ short same) q h small)
 
 pub on-tokens-spec : {M : Type 1} → statement M
 on-tokens-spec =

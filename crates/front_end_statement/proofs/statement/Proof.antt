@@ -1,33 +1,47 @@
 use native.Mathlib.Omega.{arith}
-use Rattle.front_end_statement.proofs.Forms.{few-told, by-cells, by-refusal}
+use mathlib.Core.Path.{refl}
+use Rattle.front_end_statement.proofs.Forms.{few-told, short-tokens, short-refused, tokens-fit, by-cells, by-refusal}
 use borrow.Author.Needs.{needs}
 use Rattle.front_end_statement.proofs.statement.Statement.{statement}
 use Rattle.front_end_statement.proofs.statement.Tie as tie
 
-returns : tie.Need-returns
-returns c = let many = c .if1 .taken in λ few. absurd (omega (arith, many, few))
-
 on-tokens-requires : tie.Need-on-tokens-requires
-on-tokens-requires c κs = (c .before .before .before .before .before .before .before .before .before .before .before .before .before .before .before .before .before .before .before .before .before .before .before .pre, few-told (c .before .before .before .before .before .before .before .before .before .before .before .before .before .before .before .before .before .before .before .before .before .before .before .args .t1) _ (c .before .before .before .before .before .before .before .before .before .before .before .before .before .before .before .tokens .ensures .1) (c .before .before .before .before .before .before .before .before .before .before .before .n .given .1) (c .before .before .before .before .before .before .before .before .before .before .before .before .before .before .before .before .before .before .if1 .left))
+on-tokens-requires c κs =
+    let a = c .before .before .before .before .before .before .before .before .before .before .before .before .before .before .before .before .before .before .before .before .before .before .args in
+    let tokens = c .before .before .before .before .before .before .before .before .before .before .before .before .before .before .before .tokens in
+    (c .before .before .before .before .before .before .before .before .before .before .before .before .before .before .before .before .before .before .before .before .before .before .pre, few-told (a .t1) _ (tokens .ensures .1 .0) (c .before .before .before .before .before .before .before .before .before .before .before .n .given .1) (short-tokens (a .t1) (tokens .result) _ _ _ _ (tokens .ensures .0) _ (c .before .before .before .before .before .before .before .before .before .before .before .n .given .1)))
+
+returns : tie.Need-returns
+returns c =
+    let a = c .before .before .before .before .before .before .before .before .before .before .before .before .before .before .before .before .before .before .before .before .before .before .before .before .before .before .before .before .before .before .before .args in
+    let tokens = c .before .before .before .before .before .before .before .before .before .before .before .before .before .before .before .before .before .before .before .before .before .before .before .before .tokens in
+    record {
+      short = λ few q h small. by-cells (a .t1) (tokens .result) _ _ _ _ (tokens .ensures .0) few (omega arith) (omega arith) q (a .k) _ (c .before .before .before .before .before .before .before .before .before .before .before .before .before .before .before .before .before .before .before .before .n .given .1) (rw (← c .before .before .before .before .before .before .before .before .before .before .before .before .before .before .before .part .ensures) (c .before .before .before .before .before .before .before .before .on-tokens .ensures q h small));
+      long = λ many. let few = short-tokens (a .t1) (tokens .result) _ _ _ _ (tokens .ensures .0) _ (c .before .before .before .before .before .before .before .before .before .before .before .before .before .before .before .before .before .before .before .before .n .given .1) in absurd (omega (arith, many, few));
+    }
 
 returns-2 : tie.Need-returns-2
 returns-2 c =
-    let a = c .before .before .before .before .before .before .before .before .before .before .before .before .before .before .before .before .before .before .before .before .before .before .before .before .before .before .before .before .before .before .before .before .args in
-    λ few q h small.
-    by-cells (a .t1) q (a .k) _ _ _ (c .before .before .before .before .before .before .before .before .before .before .before .before .before .before .before .before .before .before .before .before .before .before .before .before .tokens .ensures .0 (record { mark = few; kinds = omega arith; values = omega arith })) _ (c .before .before .before .before .before .before .before .before .before .before .before .before .before .before .before .before .before .before .before .before .n .given .1)
-    (rw (← c .before .before .before .before .before .before .before .before .before .before .before .before .before .before .before .part .ensures) (c .before .before .before .before .before .before .before .before .on-tokens .ensures q h small))
+    let a = c .before .before .before .before .before .before .before .before .before .before .before .before .args in
+    let tokens = c .before .before .before .before .before .tokens in
+    record {
+      short = λ few q h small. by-refusal (a .t1) (tokens .result) _ _ _ _ (tokens .ensures .0) few (omega arith) (omega arith) q (a .k) _ (c .before .e .given .1);
+      long = λ many. let few = short-refused (a .t1) (tokens .result) _ _ _ _ (tokens .ensures .0) _ (c .before .e .given .1) in absurd (omega (arith, many, few));
+    }
 
 returns-3 : tie.Need-returns-3
 returns-3 c =
-    let a = c .before .before .before .before .before .before .before .before .before .before .before .before .before .args in
-    λ few q h small.
-    by-refusal (a .t1) q (a .k) _ _ _ (c .before .before .before .before .before .tokens .ensures .0 (record { mark = few; kinds = omega arith; values = omega arith })) _ (c .before .e .given .1)
+    let a = c .before .before .before .before .before .before .before .before .before .before .before .args in
+    let tokens = c .before .before .before .before .tokens in
+    record {
+      short = λ few q h small. tokens-fit (a .t1) (tokens .result) _ _ _ _ (tokens .ensures .0) few (omega arith) (omega arith) (c .enum-told .given .1);
+      long = λ many. refl;
+    }
 
 pub statement-spec : {M : Type 1} → statement M
 statement-spec =
     tie.close
     (tie.spec
-    returns
     (λ c. search needs)
     (λ c. search needs)
     (λ c κs. search needs)
@@ -41,5 +55,7 @@ statement-spec =
     (λ c. search needs)
     (λ c. search needs)
     (λ c. search needs)
+    (λ c. search needs)
+    returns
     returns-2
     returns-3)

@@ -5,7 +5,7 @@ use native.Mathlib.Nat.{sub-zero}
 use lib.ListN.{getD}
 use Rattle.source.specs.Program.{numberOf}
 use Rattle.base.specs.Places.{each}
-use Rattle.labels.specs.Answers.{labelIn, labelsOf}
+use Rattle.labels.specs.Memory.{labelIn, labelsOf}
 use Rattle.labels.proofs.LabelTurns.{number-here, number-turn, number-over}
 use borrow.Author.Needs.{needs}
 use Rattle.labels.proofs.number_of.Statement.{statement}

@@ -2,7 +2,7 @@ use borrow.Author.Needs.{needs}
 use Prim.Native.Nat.{_-_}
 use mathlib.Core.Path.{sym}
 use native.Mathlib.Omega.{arith}
-use Rattle.order.specs.Order.{ordersOf}
+use Rattle.order.specs.Memory.{ordersOf}
 use Rattle.machine.proofs.Steps.{ended-stays}
 use Rattle.machine_run.proofs.Looping.{Loop, start, lengths-kept, again, stopped, broke-off, out-of-budget}
 use Rattle.machine_run.proofs.run.Statement.{statement}

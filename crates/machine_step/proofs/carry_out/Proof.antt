@@ -1,5 +1,5 @@
 use borrow.Author.Needs.{needs}
-use Rattle.order.specs.Order.{orderOf, shapes}
+use Rattle.order.specs.Memory.{orderOf, shapes}
 use mathlib.Core.Path.{sym}
 use Rattle.base.proofs.Arms.{none-of}
 use Rattle.order.proofs.Numbers.{no-order}

@@ -1,6 +1,6 @@
 use borrow.Author.Needs.{needs}
 use mathlib.Core.Path.{refl, _∙_}
-use Rattle.order.specs.Order.{orderOf, shapes}
+use Rattle.order.specs.Memory.{orderOf, shapes}
 use Rattle.machine.specs.Machine.{send}
 use Rattle.machine_step.proofs.Orders.{fault-met, none-met, fault-answered, fault-full}
 use Rattle.machine_step.proofs.fault_ahead.Statement.{statement}

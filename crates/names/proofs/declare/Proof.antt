@@ -1,105 +1,39 @@
-use mathlib.Core.List.{[], _∷_}
-use mathlib.Core.Path.{ap₂}
-use Rattle.base.specs.Places.{each}
-use Rattle.source.specs.Memory.{lexemeOf, lexemesFrom, tableRows}
-use Rattle.source.specs.Program.{namesIn}
-use Rattle.names.specs.Answers.{namesOf, declaredAll}
-use Rattle.names.proofs.NameTurns.{lexemeIn}
-use Rattle.names.proofs.NameTable.{declare-first, declare-turn, declare-fails, declare-end, declaring, room-here, room-behind}
-use Prim.Native.Nat.{_+_, _-_, _*_, _≤_}
-use mathlib.Core.Path.{_≡_, refl, _∙_}
-use native.Mathlib.Omega.{arith}
+use mathlib.Core.Path.{refl, sym, ap, _∙_}
+use Prim.Native.Nat.{_+_}
 use lib.ListN.{length}
+use Rattle.source.specs.Memory.{lexemesFrom}
+use Rattle.source.specs.Program.{namesIn}
+use Rattle.names.specs.Answers.{fit}
+use Rattle.names.proofs.NameTable.{among-length, fits, fit-told, unfit-told}
 use borrow.Author.Needs.{needs}
 use Rattle.names.proofs.declare.Statement.{statement}
 use Rattle.names.proofs.declare.Tie as tie
 
-abbrev Inv-loop : tie.InvT-loop
-Inv-loop cells kinds values n names₀ v i₀ count₀ names i count = (length names ≡ length names₀) × (length names₀ ≡ tableRows * 256 → v + length (namesIn (lexemesFrom 0 n cells kinds values)) ≤ tableRows → (count + length (namesIn (each (lexemeIn cells kinds values) i (n - i))) ≤ tableRows) × (declaredAll (namesOf count names) (namesIn (each (lexemeIn cells kinds values) i (n - i))) ≡ declaredAll (namesOf v names₀) (namesIn (lexemesFrom 0 n cells kinds values))))
-
-abbrev μ-loop : tie.MeasureT-loop
-μ-loop cells kinds values n names₀ v i₀ count₀ names i count = n - i
-
-loop-holds : tie.Need-loop-holds Inv-loop μ-loop
-loop-holds c =
-    let a = c .before .before .before .before .args in
-    (refl, λ whole room. rw (declare-first (a .cells .now) (a .kinds .now) (a .values .now) (a .n)) (room, refl))
-
-byte-at-requires : tie.Need-byte-at-requires Inv-loop μ-loop
-byte-at-requires c κs = search needs
-
-word-at-requires : tie.Need-word-at-requires Inv-loop μ-loop
-word-at-requires c κs = search needs
-
-declare-one-requires : tie.Need-declare-one-requires Inv-loop μ-loop
-declare-one-requires c κs = search needs
-
-enum-known-c : tie.Need-enum-known-c Inv-loop μ-loop
-enum-known-c c = search needs
-
-enum-told : tie.Need-enum-told Inv-loop μ-loop
-enum-told c = search needs
-
-same-length : tie.Need-same-length Inv-loop μ-loop
-same-length c = search needs
-
-returns : tie.Need-returns Inv-loop μ-loop
+returns : tie.Need-returns
 returns c =
-    let a = c .before .before .before .before .before .before .before .before .before .before .before .before .before .before .args in
-    let l = c .before .before .before .before .before .before .before .before .before .loop in
-    let t = c .before .before .before .before .before .before .before .before .loop-test .taken in
-    λ whole room.
-    let i = l .inv .1 whole room in
-    let x = ap₂ (λ k v. lexemeOf (a .cells .now) k v ∷ []) (c .before .before .before .before .before .before .before .byte-at .ensures) (c .before .before .before .before .before .before .word-at .ensures) in
-    let one = declaring x (c .before .before .before .before .declare-one .ensures) (l .inv .0 ∙ whole) (room-here (l .count) (lexemeIn (a .cells .now) (a .kinds .now) (a .values .now)) (a .n) (l .i) t (i .0)) in
-    record { told = declare-fails (lexemeIn (a .cells .now) (a .kinds .now) (a .values .now)) (a .n) (l .i) t one (c .enum-told .given .1) ∙ i .1; kept = one .kept ∙ l .inv .0 }
+    let a = c .before .before .before .before .before .before .before .before .before .before .before .args in
+    let ns = namesIn (lexemesFrom 0 (a .n) (a .cells .now) (a .kinds .now) (a .values .now)) in
+    let many = c .before .before .before .before .before .before .count-names .ensures ∙ among-length 0 (a .n) (a .cells .now) (a .kinds .now) (a .values .now) in
+    let yes = sym (c .before .before .before .before .before .is-fit .ensures ∙ ap (λ m. fit (length (a .names .now)) (a .v + m)) many) ∙ c .before .before .before .before .if1 .taken in
+    let room = fits (length (a .names .now)) (a .v + length ns) yes in
+    let all = c .before .before .declare-all .ensures (room .0) (room .1) in
+    (all .told ∙ fit-told (a .v) (a .names .now) ns yes, all .kept)
 
-add-i : tie.Need-add-i Inv-loop μ-loop
-add-i c = search needs
-
-loop-less : tie.Need-loop-less Inv-loop μ-loop
-loop-less c = omega arith
-
-loop-again : tie.Need-loop-again Inv-loop μ-loop
-loop-again c =
-    let a = c .before .before .before .before .before .before .before .before .before .before .before .before .before .before .before .args in
-    let l = c .before .before .before .before .before .before .before .before .before .before .loop in
-    let t = c .before .before .before .before .before .before .before .before .before .loop-test .taken in (
-      search needs,
-      λ whole room.
-          let i = l .inv .1 whole room in
-          let x = ap₂ (λ k v. lexemeOf (a .cells .now) k v ∷ []) (c .before .before .before .before .before .before .before .before .byte-at .ensures) (c .before .before .before .before .before .before .before .word-at .ensures) in
-          let one = declaring x (c .before .before .before .before .before .declare-one .ensures) (l .inv .0 ∙ whole) (room-here (l .count) (lexemeIn (a .cells .now) (a .kinds .now) (a .values .now)) (a .n) (l .i) t (i .0)) in
-          let e = c .before .c .given .1 in
-          (room-behind (lexemeIn (a .cells .now) (a .kinds .now) (a .values .now)) (a .n) (l .i) t _ one e (i .0), declare-turn (lexemeIn (a .cells .now) (a .kinds .now) (a .values .now)) (a .n) (l .i) t _ one e ∙ i .1),
-    )
-
-same-length-2 : tie.Need-same-length-2 Inv-loop μ-loop
-same-length-2 c = search needs
-
-returns-2 : tie.Need-returns-2 Inv-loop μ-loop
+returns-2 : tie.Need-returns-2
 returns-2 c =
-    let a = c .before .before .before .before .before .before .args in
-    let l = c .before .loop in
-    λ whole room.
-    record { told = declare-end (l .names) (l .count) (lexemeIn (a .cells .now) (a .kinds .now) (a .values .now)) (a .n) (l .i) (c .loop-test .left) ∙ l .inv .1 whole room .1; kept = l .inv .0 }
+    let a = c .before .before .before .before .before .before .before .args in
+    let ns = namesIn (lexemesFrom 0 (a .n) (a .cells .now) (a .kinds .now) (a .values .now)) in
+    let many = c .before .before .count-names .ensures ∙ among-length 0 (a .n) (a .cells .now) (a .kinds .now) (a .values .now) in
+    let no = sym (c .before .is-fit .ensures ∙ ap (λ m. fit (length (a .names .now)) (a .v + m)) many) ∙ c .if1 .left in
+    (unfit-told (a .v) (a .names .now) ns no, refl)
 
 pub declare-spec : {M : Type 1} → statement M
 declare-spec =
     tie.close
     (tie.spec
-    Inv-loop
-    μ-loop
-    loop-holds
-    byte-at-requires
-    word-at-requires
-    declare-one-requires
-    enum-known-c
-    enum-told
-    same-length
+    (λ c κs. search needs)
+    (λ c κs. search needs)
+    (λ c κs. search needs)
+    (λ c. search needs)
     returns
-    add-i
-    loop-less
-    loop-again
-    same-length-2
     returns-2)

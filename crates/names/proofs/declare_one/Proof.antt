@@ -1,6 +1,6 @@
 use mathlib.Core.Path.{sym, ap, _∙_}
 use Rattle.source.specs.Program.{wordOf}
-use Rattle.names.specs.Answers.{namesOf}
+use Rattle.names.specs.Memory.{namesOf}
 use Rattle.names.proofs.NameTable.{not-declared, cannot-declare, full, is-declared}
 use borrow.Author.Needs.{needs}
 use Rattle.names.proofs.declare_one.Statement.{statement}

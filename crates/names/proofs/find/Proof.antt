@@ -7,7 +7,7 @@ use native.Mathlib.Omega.{arith}
 use lib.ListN.{take, drop}
 use Rattle.source.specs.Program.{sameName, wordFrom}
 use Rattle.base.specs.Places.{each}
-use Rattle.names.specs.Answers.{nameAt, namesOf}
+use Rattle.names.specs.Memory.{nameAt, namesOf}
 use Rattle.names.proofs.NameTurns.{find-here, find-turn, find-over}
 use Rattle.names.proofs.find.Statement.{statement}
 use Rattle.names.proofs.find.Tie as tie

@@ -1,11 +1,11 @@
 use mathlib.Core.Path.{ap₂}
 use Rattle.base.specs.Places.{each}
-use Rattle.base.proofs.Places.{each-none, inside}
+use Rattle.base.proofs.Places.{each-none}
 use Rattle.source.specs.Memory.{tokenOf, lexemeOf}
 use Rattle.source.specs.Program.{lookedUp}
-use Rattle.names.specs.Answers.{namesOf}
+use Rattle.names.specs.Memory.{namesOf}
 use Rattle.names.proofs.NameTurns.{tokenIn, lexemeIn, look-more, look-over}
-use Prim.Native.Nat.{_-_, _≤_}
+use Prim.Native.Nat.{_-_, _≤_, min}
 use mathlib.Core.Path.{_≡_, refl, sym, ap, _∙_}
 use native.Mathlib.Omega.{arith}
 use lib.ListN.{length, length-set}
@@ -14,7 +14,7 @@ use Rattle.names.proofs.look_up.Statement.{statement}
 use Rattle.names.proofs.look_up.Tie as tie
 
 abbrev Inv-loop : tie.InvT-loop
-Inv-loop cells kinds values n names v words₀ i₀ words i = (length words ≡ length words₀) × (i ≤ n) × (n ≤ length words₀ → each (tokenIn kinds words) 0 i ≡ each (λ j. lookedUp (namesOf v names) (lexemeIn cells kinds values j)) 0 i)
+Inv-loop cells kinds values n names v words₀ i₀ words i = (length words ≡ length words₀) × (i ≤ n) × (i ≤ length words₀) × (each (tokenIn kinds words) 0 i ≡ each (λ j. lookedUp (namesOf v names) (lexemeIn cells kinds values j)) 0 i)
 
 abbrev μ-loop : tie.MeasureT-loop
 μ-loop cells kinds values n names v words₀ i₀ words i = n - i
@@ -22,49 +22,52 @@ abbrev μ-loop : tie.MeasureT-loop
 loop-holds : tie.Need-loop-holds Inv-loop μ-loop
 loop-holds c =
     let a = c .before .before .before .before .before .args in
-    (refl, omega arith, λ room. each-none (tokenIn (a .kinds .now) (a .words .now)) (λ j. lookedUp (namesOf (a .v) (a .names .now)) (lexemeIn (a .cells .now) (a .kinds .now) (a .values .now) j)) 0)
+    (refl, omega arith, omega arith, each-none (tokenIn (a .kinds .now) (a .words .now)) (λ j. lookedUp (namesOf (a .v) (a .names .now)) (lexemeIn (a .cells .now) (a .kinds .now) (a .values .now) j)) 0)
 
-byte-at-requires : tie.Need-byte-at-requires Inv-loop μ-loop
-byte-at-requires c κs = search needs
+same-length : tie.Need-same-length Inv-loop μ-loop
+same-length c = c .before .before .loop .inv .0
 
-word-at-requires : tie.Need-word-at-requires Inv-loop μ-loop
-word-at-requires c κs = search needs
-
-seen-requires : tie.Need-seen-requires Inv-loop μ-loop
-seen-requires c κs = search needs
-
-put-word-requires : tie.Need-put-word-requires Inv-loop μ-loop
-put-word-requires c κs = search needs
-
-add-i : tie.Need-add-i Inv-loop μ-loop
-add-i c = search needs
-
-loop-less : tie.Need-loop-less Inv-loop μ-loop
-loop-less c = omega arith
+returns : tie.Need-returns Inv-loop μ-loop
+returns c =
+    let a = c .before .before .before .before .before .before .before .before .args in
+    let l = c .before .before .loop in
+    let t = c .before .loop-test .taken in
+    let full = c .if1 .taken in
+    let same = l .inv .0 in
+    let few = l .inv .2 in (
+      look-over (namesOf (a .v) (a .names .now)) (a .cells .now) (a .kinds .now) (a .values .now) (l .words) (min (a .n) (length (a .words .now))) (l .i) (omega (arith, t, few)) (omega (arith, same, full)) (l .inv .3),
+      same,
+    )
 
 loop-again : tie.Need-loop-again Inv-loop μ-loop
 loop-again c =
-    let a = c .before .before .before .before .before .before .before .before .before .before .before .before .before .before .args in
-    let l = c .before .before .before .before .before .before .before .before .loop in
-    let t = c .before .before .before .before .before .before .before .loop-test .taken in
+    let a = c .before .before .before .before .before .before .before .before .before .before .before .before .before .before .before .args in
+    let l = c .before .before .before .before .before .before .before .before .before .loop in
+    let t = c .before .before .before .before .before .before .before .before .loop-test .taken in
+    let room = c .before .before .before .before .before .before .before .if1 .left in
+    let same = l .inv .0 in
     let e = c .before .before .put-word .ensures in
     let seen = c .before .before .before .seen in
     let k = c .before .before .before .before .before .before .byte-at .ensures in
     let v = c .before .before .before .before .before .word-at .ensures in
     let s = ap (λ n. tokenOf n (seen .result)) (sym k) ∙ seen .ensures ∙ ap₂ (λ n m. lookedUp (namesOf (a .v) (a .names .now)) (lexemeOf (a .cells .now) n m)) k v in (
-      rw (e, length-set (l .words) _ _) (l .inv .0),
+      rw (e, length-set (l .words) _ _) same,
       omega (arith, t),
-      λ room. rw e (look-more (a .kinds .now) (l .words) (λ j. lookedUp (namesOf (a .v) (a .names .now)) (lexemeIn (a .cells .now) (a .kinds .now) (a .values .now) j)) (l .i) (seen .result) (inside (l .inv .0) room t) s (l .inv .2 room)),
+      omega (arith, same, room),
+      rw e (look-more (a .kinds .now) (l .words) (λ j. lookedUp (namesOf (a .v) (a .names .now)) (lexemeIn (a .cells .now) (a .kinds .now) (a .values .now) j)) (l .i) (seen .result) room s (l .inv .3)),
     )
 
-same-length : tie.Need-same-length Inv-loop μ-loop
-same-length c = c .before .loop .inv .0
+same-length-2 : tie.Need-same-length-2 Inv-loop μ-loop
+same-length-2 c = c .before .loop .inv .0
 
-returns : tie.Need-returns Inv-loop μ-loop
-returns c =
+returns-2 : tie.Need-returns-2 Inv-loop μ-loop
+returns-2 c =
     let a = c .before .before .before .before .before .before .before .args in
-    let l = c .before .loop in (
-      (λ room. look-over (namesOf (a .v) (a .names .now)) (a .cells .now) (a .kinds .now) (a .values .now) (l .words) (a .n) (l .i) (l .inv .1) (c .loop-test .left) (l .inv .2 room)),
+    let l = c .before .loop in
+    let left = c .loop-test .left in
+    let on = l .inv .1 in
+    let few = l .inv .2 in (
+      look-over (namesOf (a .v) (a .names .now)) (a .cells .now) (a .kinds .now) (a .values .now) (l .words) (min (a .n) (length (a .words .now))) (l .i) (omega (arith, on, few)) (omega (arith, left)) (l .inv .3),
       l .inv .0,
     )
 
@@ -75,12 +78,14 @@ look-up-spec =
     Inv-loop
     μ-loop
     loop-holds
-    byte-at-requires
-    word-at-requires
-    seen-requires
-    put-word-requires
-    add-i
-    loop-less
-    loop-again
     same-length
-    returns)
+    returns
+    (λ c κs. search needs)
+    (λ c κs. search needs)
+    (λ c κs. search needs)
+    (λ c κs. search needs)
+    (λ c. search needs)
+    (λ c. omega arith)
+    loop-again
+    same-length-2
+    returns-2)

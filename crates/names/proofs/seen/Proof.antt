@@ -1,7 +1,7 @@
 use mathlib.Core.Path.{ap, _∙_}
 use Rattle.source.specs.Program.{wordOf}
 use Rattle.source.specs.Memory.{tokenOf}
-use Rattle.names.specs.Answers.{namesOf}
+use Rattle.names.specs.Memory.{namesOf}
 use Rattle.names.proofs.NameTurns.{seen-token, seen-name}
 use borrow.Author.Needs.{needs}
 use Rattle.names.proofs.seen.Statement.{statement}

@@ -11,13 +11,13 @@ use Rattle.object_reader.proofs.header_at.Tie as tie
 returns : tie.Need-returns
 unfolding headerAt onFront bytes
 returns c =
-    (rw (← c .before .before .fixed-at .ensures, c .enum-told .given .1) refl, tt)
+    (rw (← c .before .before .fixed-at .ensures .0, c .enum-told .given .1) refl, tt)
 
 returns-2 : tie.Need-returns-2
 unfolding headerAt onFront bytes
 returns-2 c =
     let a = c .before .before .before .before in (
-      rw (← a .before .before .fixed-at .ensures, a .a .given .1, ← c .before .before .numeral-at .ensures, c .enum-told2 .given .1) refl,
+      rw (← a .before .before .fixed-at .ensures .0, a .a .given .1, ← c .before .before .numeral-at .ensures .0, c .enum-told2 .given .1) refl,
       tt,
     )
 
@@ -26,8 +26,8 @@ unfolding headerAt onFront bytes
 returns-3 c =
     let v = c .before .before .before .before in
     let a = v .before .before .before .before in (
-      rw (← a .before .before .fixed-at .ensures, a .a .given .1, ← v .before .before .numeral-at .ensures, v .v .given .1)
-          (rw (← c .before .before .numeral-at2 .ensures, c .enum-told3 .given .1) refl),
+      rw (← a .before .before .fixed-at .ensures .0, a .a .given .1, ← v .before .before .numeral-at .ensures .0, v .v .given .1)
+          (rw (← c .before .before .numeral-at2 .ensures .0, c .enum-told3 .given .1) refl),
       tt,
     )
 
@@ -37,8 +37,8 @@ returns-4 c =
     let t = c .before .before .before .before in
     let v = t .before .before .before .before in
     let a = v .before .before .before .before in (
-      rw (← a .before .before .fixed-at .ensures, a .a .given .1, ← v .before .before .numeral-at .ensures, v .v .given .1)
-          (rw (← t .before .before .numeral-at2 .ensures, t .t .given .1, ← c .before .before .numeral-at3 .ensures, c .enum-told4 .given .1) refl),
+      rw (← a .before .before .fixed-at .ensures .0, a .a .given .1, ← v .before .before .numeral-at .ensures .0, v .v .given .1)
+          (rw (← t .before .before .numeral-at2 .ensures .0, t .t .given .1, ← c .before .before .numeral-at3 .ensures .0, c .enum-told4 .given .1) refl),
       tt,
     )
 
@@ -49,8 +49,8 @@ returns-5 c =
     let t = n .before .before .before .before in
     let v = t .before .before .before .before in
     let a = v .before .before .before .before in (
-      rw (← a .before .before .fixed-at .ensures, a .a .given .1, ← v .before .before .numeral-at .ensures, v .v .given .1)
-          (rw (← t .before .before .numeral-at2 .ensures, t .t .given .1, ← n .before .before .numeral-at3 .ensures, n .n .given .1)
+      rw (← a .before .before .fixed-at .ensures .0, a .a .given .1, ← v .before .before .numeral-at .ensures .0, v .v .given .1)
+          (rw (← t .before .before .numeral-at2 .ensures .0, t .t .given .1, ← n .before .before .numeral-at3 .ensures .0, n .n .given .1)
           (search cases depth 16)),
       bounded _ _ _ (sym (c .before .within-limits .ensures) ∙ c .if1 .taken),
     )
@@ -62,8 +62,8 @@ returns-6 c =
     let t = n .before .before .before .before in
     let v = t .before .before .before .before in
     let a = v .before .before .before .before in (
-      rw (← a .before .before .fixed-at .ensures, a .a .given .1, ← v .before .before .numeral-at .ensures, v .v .given .1)
-          (rw (← t .before .before .numeral-at2 .ensures, t .t .given .1, ← n .before .before .numeral-at3 .ensures, n .n .given .1)
+      rw (← a .before .before .fixed-at .ensures .0, a .a .given .1, ← v .before .before .numeral-at .ensures .0, v .v .given .1)
+          (rw (← t .before .before .numeral-at2 .ensures .0, t .t .given .1, ← n .before .before .numeral-at3 .ensures .0, n .n .given .1)
           (search cases depth 16)),
       tt,
     )

@@ -4,7 +4,7 @@ use mathlib.Core.Path.{_≡_, refl, ap, _∙_}
 use native.Mathlib.Omega.{arith}
 use lib.ListN.{length}
 use Rattle.text.specs.Internal.{placed, putAll}
-use Rattle.order.specs.Order.{ordersFrom}
+use Rattle.order.specs.Memory.{ordersFrom}
 use Rattle.order.specs.Object.{recordsText}
 use Rattle.object_writer.proofs.Writing.{left-text, put-start, records-turn, records-over}
 use Rattle.object_writer.proofs.put_records.Statement.{statement}

@@ -3,7 +3,7 @@ use Prim.Native.Nat.{_+_, _-_, _*_, _≤_}
 use mathlib.Core.Path.{_≡_}
 use native.Mathlib.Omega.{arith}
 use lib.ListN.{length}
-use Rattle.order.specs.Order.{ordersFrom}
+use Rattle.order.specs.Memory.{ordersFrom}
 use Rattle.order.specs.Object.{text}
 use Rattle.object_writer.proofs.Writing.{left-text, count-start, count-turn, count-over}
 use Rattle.object_writer.proofs.text_length.Statement.{statement}

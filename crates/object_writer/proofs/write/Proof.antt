@@ -3,7 +3,7 @@ use mathlib.Core.Path.{ap, _∙_}
 use native.Mathlib.Omega.{arith}
 use Rattle.text.specs.Internal.{putAll}
 use Rattle.text.proofs.Writing.{write-short, write-whole}
-use Rattle.order.specs.Order.{ordersFrom}
+use Rattle.order.specs.Memory.{ordersFrom}
 use Rattle.order.specs.Object.{text}
 use Rattle.object_writer.proofs.Writing.{put-text}
 use Rattle.object_writer.proofs.write.Statement.{statement}

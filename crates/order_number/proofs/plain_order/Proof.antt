@@ -1,6 +1,6 @@
 use mathlib.Core.Path.{refl}
 use Rattle.base.proofs.Arms.{none-of}
-use Rattle.order.specs.Order.{shapes}
+use Rattle.order.specs.Memory.{shapes}
 use Rattle.order_number.specs.Internal.{plainOrder}
 use Rattle.order_number.proofs.Numbering.{no-plain-order}
 use Rattle.order_number.proofs.plain_order.Statement.{statement}

@@ -4,7 +4,7 @@ use mathlib.Core.Path.{refl}
 use Rattle.base.specs.Choice.{pick}
 use Rattle.base.specs.Text.{bytes}
 use Rattle.base.specs.Places.{each}
-use Rattle.order.specs.Order.{shapes, orderOf}
+use Rattle.order.specs.Memory.{shapes, orderOf}
 use Rattle.order_record.proofs.Writing.{row-read}
 use Rattle.order_record.proofs.heading_at.Statement.{statement}
 use Rattle.order_record.proofs.heading_at.Tie as tie
@@ -13,7 +13,7 @@ returns : tie.Need-returns
 unfolding each bytes orderOf shapes
 returns c =
     let h = c .before .before in
-    row-read _ refl _ _ _ (c .before .part .ensures) _ _ (h .before .before .if1 .taken) (h .heading-length .ensures .0) (c .fixed-at .ensures)
+    row-read _ refl _ _ _ (c .before .part .ensures) _ _ (h .before .before .if1 .taken) (h .heading-length .ensures .0) (c .fixed-at .ensures .0)
 
 returns-2 : tie.Need-returns-2
 unfolding pick

@@ -3,7 +3,7 @@ use mathlib.Core.Path.{ap}
 use lib.ListN.{length}
 use native.Mathlib.Omega.{arith}
 use Rattle.base.specs.Text.{bytes}
-use Rattle.order.specs.Order.{shapes}
+use Rattle.order.specs.Memory.{shapes}
 use Rattle.order.specs.Object.{heading}
 use Rattle.order.proofs.Numbers.{no-order}
 use Rattle.order_record.proofs.Writing.{heading-length, heading-short}

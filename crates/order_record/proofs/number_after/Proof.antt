@@ -8,18 +8,18 @@ use Rattle.order_record.proofs.number_after.Tie as tie
 returns : tie.Need-returns
 unfolding onFront
 returns c =
-    rw (← c .before .before .before .before .before .before .numeral-at .ensures, c .before .before .before .before .v .given .1, ← c .before .before .order-of .ensures, ← c .before .operand-of .ensures)
+    rw (← c .before .before .before .before .before .before .numeral-at .ensures .0, c .before .before .before .before .v .given .1, ← c .before .before .order-of .ensures, ← c .before .operand-of .ensures)
     (search cases depth 16)
 
 returns-2 : tie.Need-returns-2
 unfolding onFront
 returns-2 c =
-    rw (← c .before .before .before .before .before .before .numeral-at .ensures, c .before .before .before .before .v .given .1, ← c .before .before .order-of .ensures, ← c .before .operand-of .ensures)
+    rw (← c .before .before .before .before .before .before .numeral-at .ensures .0, c .before .before .before .before .v .given .1, ← c .before .before .order-of .ensures, ← c .before .operand-of .ensures)
     (search cases depth 16)
 
 returns-3 : tie.Need-returns-3
 unfolding onFront
-returns-3 c = rw (← c .before .before .numeral-at .ensures, c .enum-told .given .1) refl
+returns-3 c = rw (← c .before .before .numeral-at .ensures .0, c .enum-told .given .1) refl
 
 pub number-after-spec : {M : Type 1} → statement M
 number-after-spec =

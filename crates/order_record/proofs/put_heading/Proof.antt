@@ -2,7 +2,7 @@ use borrow.Author.Needs.{needs}
 use mathlib.Core.Path.{refl}
 use Rattle.base.specs.Text.{bytes}
 use Rattle.base.specs.Places.{each}
-use Rattle.order.specs.Order.{shapes, orderOf}
+use Rattle.order.specs.Memory.{shapes, orderOf}
 use Rattle.order.proofs.Numbers.{no-order}
 use Rattle.order_record.proofs.Writing.{row-put}
 use Rattle.order_record.proofs.put_heading.Statement.{statement}

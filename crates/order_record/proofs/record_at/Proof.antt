@@ -4,8 +4,9 @@ use mathlib.Core.Path.{_≡_, refl}
 use native.Mathlib.Omega.{arith}
 use lib.ListN.{drop}
 use Rattle.base.specs.Front.{onFront}
-use Rattle.order.specs.Order.{shapes}
+use Rattle.order.specs.Memory.{shapes}
 use Rattle.order.specs.Object.{recordAmong, recordAt}
+use Rattle.order.proofs.Records.{numbers-read}
 use Rattle.order_record.proofs.Turns.{among-turn, among-over}
 use Rattle.order_record.proofs.record_at.Statement.{statement}
 use Rattle.order_record.proofs.record_at.Tie as tie
@@ -17,8 +18,7 @@ abbrev μ-loop : tie.MeasureT-loop
 μ-loop s at k₀ k = 36 - k
 
 loop-holds : tie.Need-loop-holds Inv-loop μ-loop
-unfolding recordAt
-loop-holds c = refl
+loop-holds c = numbers-read _
 
 returns : tie.Need-returns Inv-loop μ-loop
 unfolding onFront

@@ -6,7 +6,7 @@ use native.Mathlib.Omega.{arith}
 use lib.ListN.{length}
 use Rattle.text.specs.Internal.{placed, putAll}
 use Rattle.sheet_field.specs.Memory.{fieldsFrom}
-use Rattle.sheet_text.specs.Internal.{fieldsText}
+use Rattle.sheet_text.specs.TextOfFields.{fieldsText}
 use Rattle.sheet_text.proofs.Writing.{left, put-start, put-turn, put-over}
 use Rattle.sheet_text.proofs.put_fields.Statement.{statement}
 use Rattle.sheet_text.proofs.put_fields.Tie as tie

@@ -15,10 +15,10 @@ abbrev μ-loop : tie.MeasureT-loop
 μ-loop cells kinds₀ values₀ at₀ n₀ kinds values at n = length cells - at
 
 loop-holds : tie.Need-loop-holds Inv-loop μ-loop
-loop-holds c = (scans-first _ _ _, refl, refl)
+loop-holds c = let p = c .before .before .before .pre in (scans-first _ _ _ (p .1) (p .2), refl, refl)
 
 stored-of-requires : tie.Need-stored-of-requires Inv-loop μ-loop
-stored-of-requires c κs = within _ _ _ _ (c .before .before .before .before .before .before .pre) (c .one-at .ensures)
+stored-of-requires c κs = within _ _ _ _ (c .before .before .before .before .before .before .pre .0) (c .one-at .ensures)
 
 add-n : tie.Need-add-n Inv-loop μ-loop
 add-n c =
@@ -45,7 +45,7 @@ loop-again c =
     let at-loop = at-loop-test .before in
     let at-pre = at-loop .before .before .before .before in (
       rw (at-put-byte .put-byte .ensures, c .before .before .put-word .ensures)
-          (scans-turn _ _ _ _ _ (at-pre .pre) (at-loop .loop .inv .0) (at-loop-test .loop-test .taken) _ (at-one-at .one-at .ensures) _ _ _
+          (scans-turn _ _ _ _ _ (at-pre .pre .0) (at-loop .loop .inv .0) (at-loop-test .loop-test .taken) _ (at-one-at .one-at .ensures) _ _ _
           (sym (at-stored-of .stored-of .ensures) ∙ at-k .k .given .1)),
       at-put-byte .put-byte .kept .0 ∙ at-loop .loop .inv .1,
       c .before .before .put-word .kept .0 ∙ at-loop .loop .inv .2,
@@ -64,7 +64,7 @@ returns c =
     let at-loop-test = at-one-at .before in
     let at-loop = at-loop-test .before in
     let at-pre = at-loop .before .before .before .before in
-    scans-wrong _ _ _ _ _ (at-pre .pre) (at-loop .loop .inv .0) (at-loop-test .loop-test .taken) _ (at-one-at .one-at .ensures) _
+    scans-wrong _ _ _ _ _ (at-pre .pre .0) (at-loop .loop .inv .0) (at-loop-test .loop-test .taken) _ (at-one-at .one-at .ensures) _
     (sym (at-stored-of .stored-of .ensures) ∙ c .before .k2 .given .1)
 
 same-length-3 : tie.Need-same-length-3 Inv-loop μ-loop
@@ -74,7 +74,7 @@ same-length-4 : tie.Need-same-length-4 Inv-loop μ-loop
 same-length-4 c = c .before .loop .inv .2
 
 returns-2 : tie.Need-returns-2 Inv-loop μ-loop
-returns-2 c = scans-over _ _ _ _ _ (c .before .before .before .before .before .pre) (c .before .loop .inv .0) (c .loop-test .left)
+returns-2 c = scans-over _ _ _ _ _ (c .before .before .before .before .before .pre .0) (c .before .loop .inv .0) (c .loop-test .left)
 
 pub scan-spec : {M : Type 1} → statement M
 scan-spec =

@@ -11,7 +11,7 @@ unfolding bytes
 returns c =
     let at-fixed-at = c .before .before .before in
     whole _ _ _ (by-hit _ _ "endofprogram" (Mark 129) _ _ (omega arith) (omega arith)
-    (rw (c .before .q .given .1) at (at-fixed-at .fixed-at .ensures)))
+    (rw (c .before .q .given .1) at (at-fixed-at .fixed-at .ensures .0)))
 
 returns-2 : tie.Need-returns-2
 unfolding bytes
@@ -19,8 +19,8 @@ returns-2 c =
     let at-fixed-at2 = c .before .before .before in
     let at-enum-told = at-fixed-at2 .before .before in
     let at-fixed-at = at-enum-told .before .before in
-    whole _ _ _ (by-miss _ _ "endofprogram" (Mark 129) _ _ (rw (at-enum-told .enum-told .given .1) at (at-fixed-at .fixed-at .ensures))
-    (by-hit _ _ "integer" (Mark 130) _ _ (omega arith) (omega arith) (rw (c .before .q2 .given .1) at (at-fixed-at2 .fixed-at2 .ensures))))
+    whole _ _ _ (by-miss _ _ "endofprogram" (Mark 129) _ _ (rw (at-enum-told .enum-told .given .1) at (at-fixed-at .fixed-at .ensures .0))
+    (by-hit _ _ "integer" (Mark 130) _ _ (omega arith) (omega arith) (rw (c .before .q2 .given .1) at (at-fixed-at2 .fixed-at2 .ensures .0))))
 
 returns-3 : tie.Need-returns-3
 unfolding bytes
@@ -30,9 +30,9 @@ returns-3 c =
     let at-fixed-at2 = at-enum-told2 .before .before in
     let at-enum-told = at-fixed-at2 .before .before in
     let at-fixed-at = at-enum-told .before .before in
-    whole _ _ _ (by-miss _ _ "endofprogram" (Mark 129) _ _ (rw (at-enum-told .enum-told .given .1) at (at-fixed-at .fixed-at .ensures))
-    (by-miss _ _ "integer" (Mark 130) _ _ (rw (at-enum-told2 .enum-told2 .given .1) at (at-fixed-at2 .fixed-at2 .ensures))
-    (by-hit _ _ "begin" (Mark 128) _ _ (omega arith) (omega arith) (rw (c .before .q3 .given .1) at (at-fixed-at3 .fixed-at3 .ensures)))))
+    whole _ _ _ (by-miss _ _ "endofprogram" (Mark 129) _ _ (rw (at-enum-told .enum-told .given .1) at (at-fixed-at .fixed-at .ensures .0))
+    (by-miss _ _ "integer" (Mark 130) _ _ (rw (at-enum-told2 .enum-told2 .given .1) at (at-fixed-at2 .fixed-at2 .ensures .0))
+    (by-hit _ _ "begin" (Mark 128) _ _ (omega arith) (omega arith) (rw (c .before .q3 .given .1) at (at-fixed-at3 .fixed-at3 .ensures .0)))))
 
 returns-4 : tie.Need-returns-4
 unfolding bytes
@@ -44,10 +44,10 @@ returns-4 c =
     let at-fixed-at2 = at-enum-told2 .before .before in
     let at-enum-told = at-fixed-at2 .before .before in
     let at-fixed-at = at-enum-told .before .before in
-    whole _ _ _ (by-miss _ _ "endofprogram" (Mark 129) _ _ (rw (at-enum-told .enum-told .given .1) at (at-fixed-at .fixed-at .ensures))
-    (by-miss _ _ "integer" (Mark 130) _ _ (rw (at-enum-told2 .enum-told2 .given .1) at (at-fixed-at2 .fixed-at2 .ensures))
-    (by-miss _ _ "begin" (Mark 128) _ _ (rw (at-enum-told3 .enum-told3 .given .1) at (at-fixed-at3 .fixed-at3 .ensures))
-    (by-hit _ _ "then" (Mark 132) _ _ (omega arith) (omega arith) (rw (c .before .q4 .given .1) at (at-fixed-at4 .fixed-at4 .ensures))))))
+    whole _ _ _ (by-miss _ _ "endofprogram" (Mark 129) _ _ (rw (at-enum-told .enum-told .given .1) at (at-fixed-at .fixed-at .ensures .0))
+    (by-miss _ _ "integer" (Mark 130) _ _ (rw (at-enum-told2 .enum-told2 .given .1) at (at-fixed-at2 .fixed-at2 .ensures .0))
+    (by-miss _ _ "begin" (Mark 128) _ _ (rw (at-enum-told3 .enum-told3 .given .1) at (at-fixed-at3 .fixed-at3 .ensures .0))
+    (by-hit _ _ "then" (Mark 132) _ _ (omega arith) (omega arith) (rw (c .before .q4 .given .1) at (at-fixed-at4 .fixed-at4 .ensures .0))))))
 
 returns-5 : tie.Need-returns-5
 unfolding bytes
@@ -61,11 +61,11 @@ returns-5 c =
     let at-fixed-at2 = at-enum-told2 .before .before in
     let at-enum-told = at-fixed-at2 .before .before in
     let at-fixed-at = at-enum-told .before .before in
-    whole _ _ _ (by-miss _ _ "endofprogram" (Mark 129) _ _ (rw (at-enum-told .enum-told .given .1) at (at-fixed-at .fixed-at .ensures))
-    (by-miss _ _ "integer" (Mark 130) _ _ (rw (at-enum-told2 .enum-told2 .given .1) at (at-fixed-at2 .fixed-at2 .ensures))
-    (by-miss _ _ "begin" (Mark 128) _ _ (rw (at-enum-told3 .enum-told3 .given .1) at (at-fixed-at3 .fixed-at3 .ensures))
-    (by-miss _ _ "then" (Mark 132) _ _ (rw (at-enum-told4 .enum-told4 .given .1) at (at-fixed-at4 .fixed-at4 .ensures))
-    (by-hit _ _ "else" (Mark 133) _ _ (omega arith) (omega arith) (rw (c .before .q5 .given .1) at (at-fixed-at5 .fixed-at5 .ensures)))))))
+    whole _ _ _ (by-miss _ _ "endofprogram" (Mark 129) _ _ (rw (at-enum-told .enum-told .given .1) at (at-fixed-at .fixed-at .ensures .0))
+    (by-miss _ _ "integer" (Mark 130) _ _ (rw (at-enum-told2 .enum-told2 .given .1) at (at-fixed-at2 .fixed-at2 .ensures .0))
+    (by-miss _ _ "begin" (Mark 128) _ _ (rw (at-enum-told3 .enum-told3 .given .1) at (at-fixed-at3 .fixed-at3 .ensures .0))
+    (by-miss _ _ "then" (Mark 132) _ _ (rw (at-enum-told4 .enum-told4 .given .1) at (at-fixed-at4 .fixed-at4 .ensures .0))
+    (by-hit _ _ "else" (Mark 133) _ _ (omega arith) (omega arith) (rw (c .before .q5 .given .1) at (at-fixed-at5 .fixed-at5 .ensures .0)))))))
 
 returns-6 : tie.Need-returns-6
 unfolding bytes
@@ -81,12 +81,12 @@ returns-6 c =
     let at-fixed-at2 = at-enum-told2 .before .before in
     let at-enum-told = at-fixed-at2 .before .before in
     let at-fixed-at = at-enum-told .before .before in
-    whole _ _ _ (by-miss _ _ "endofprogram" (Mark 129) _ _ (rw (at-enum-told .enum-told .given .1) at (at-fixed-at .fixed-at .ensures))
-    (by-miss _ _ "integer" (Mark 130) _ _ (rw (at-enum-told2 .enum-told2 .given .1) at (at-fixed-at2 .fixed-at2 .ensures))
-    (by-miss _ _ "begin" (Mark 128) _ _ (rw (at-enum-told3 .enum-told3 .given .1) at (at-fixed-at3 .fixed-at3 .ensures))
-    (by-miss _ _ "then" (Mark 132) _ _ (rw (at-enum-told4 .enum-told4 .given .1) at (at-fixed-at4 .fixed-at4 .ensures))
-    (by-miss _ _ "else" (Mark 133) _ _ (rw (at-enum-told5 .enum-told5 .given .1) at (at-fixed-at5 .fixed-at5 .ensures))
-    (by-hit _ _ "if" (Mark 131) _ _ (omega arith) (omega arith) (rw (c .before .q6 .given .1) at (at-fixed-at6 .fixed-at6 .ensures))))))))
+    whole _ _ _ (by-miss _ _ "endofprogram" (Mark 129) _ _ (rw (at-enum-told .enum-told .given .1) at (at-fixed-at .fixed-at .ensures .0))
+    (by-miss _ _ "integer" (Mark 130) _ _ (rw (at-enum-told2 .enum-told2 .given .1) at (at-fixed-at2 .fixed-at2 .ensures .0))
+    (by-miss _ _ "begin" (Mark 128) _ _ (rw (at-enum-told3 .enum-told3 .given .1) at (at-fixed-at3 .fixed-at3 .ensures .0))
+    (by-miss _ _ "then" (Mark 132) _ _ (rw (at-enum-told4 .enum-told4 .given .1) at (at-fixed-at4 .fixed-at4 .ensures .0))
+    (by-miss _ _ "else" (Mark 133) _ _ (rw (at-enum-told5 .enum-told5 .given .1) at (at-fixed-at5 .fixed-at5 .ensures .0))
+    (by-hit _ _ "if" (Mark 131) _ _ (omega arith) (omega arith) (rw (c .before .q6 .given .1) at (at-fixed-at6 .fixed-at6 .ensures .0))))))))
 
 returns-7 : tie.Need-returns-7
 unfolding bytes
@@ -101,12 +101,12 @@ returns-7 c =
     let at-fixed-at2 = at-enum-told2 .before .before in
     let at-enum-told = at-fixed-at2 .before .before in
     let at-fixed-at = at-enum-told .before .before in
-    whole _ _ _ (by-miss _ _ "endofprogram" (Mark 129) _ _ (rw (at-enum-told .enum-told .given .1) at (at-fixed-at .fixed-at .ensures))
-    (by-miss _ _ "integer" (Mark 130) _ _ (rw (at-enum-told2 .enum-told2 .given .1) at (at-fixed-at2 .fixed-at2 .ensures))
-    (by-miss _ _ "begin" (Mark 128) _ _ (rw (at-enum-told3 .enum-told3 .given .1) at (at-fixed-at3 .fixed-at3 .ensures))
-    (by-miss _ _ "then" (Mark 132) _ _ (rw (at-enum-told4 .enum-told4 .given .1) at (at-fixed-at4 .fixed-at4 .ensures))
-    (by-miss _ _ "else" (Mark 133) _ _ (rw (at-enum-told5 .enum-told5 .given .1) at (at-fixed-at5 .fixed-at5 .ensures))
-    (by-miss _ _ "if" (Mark 131) _ _ (rw (c .enum-told6 .given .1) at (c .before .before .fixed-at6 .ensures)) (by-none _ _)))))))
+    whole _ _ _ (by-miss _ _ "endofprogram" (Mark 129) _ _ (rw (at-enum-told .enum-told .given .1) at (at-fixed-at .fixed-at .ensures .0))
+    (by-miss _ _ "integer" (Mark 130) _ _ (rw (at-enum-told2 .enum-told2 .given .1) at (at-fixed-at2 .fixed-at2 .ensures .0))
+    (by-miss _ _ "begin" (Mark 128) _ _ (rw (at-enum-told3 .enum-told3 .given .1) at (at-fixed-at3 .fixed-at3 .ensures .0))
+    (by-miss _ _ "then" (Mark 132) _ _ (rw (at-enum-told4 .enum-told4 .given .1) at (at-fixed-at4 .fixed-at4 .ensures .0))
+    (by-miss _ _ "else" (Mark 133) _ _ (rw (at-enum-told5 .enum-told5 .given .1) at (at-fixed-at5 .fixed-at5 .ensures .0))
+    (by-miss _ _ "if" (Mark 131) _ _ (rw (c .enum-told6 .given .1) at (c .before .before .fixed-at6 .ensures .0)) (by-none _ _)))))))
 
 pub keyword-at-spec : {M : Type 1} → statement M
 keyword-at-spec =

@@ -2,8 +2,8 @@ use Prim.Native.Nat.{_-_, max}
 use mathlib.Core.Path.{_≡_, ap, _∙_}
 use native.Mathlib.Nat.{sub-zero}
 use native.Mathlib.Omega.{arith}
-use Rattle.order.specs.Order.{ordersFrom}
-use Rattle.untranslate.specs.Internal.{usedBy, mostUsed}
+use Rattle.order.specs.Memory.{ordersFrom}
+use Rattle.sheet.specs.Temporaries.{storedTo, largestStored}
 use Rattle.untranslate.proofs.Loops.{used-turn, used-over}
 use borrow.Author.Needs.{needs}
 use Rattle.untranslate.proofs.most_used.Statement.{statement}
@@ -11,7 +11,7 @@ use Rattle.untranslate.proofs.most_used.Tie as tie
 
 abbrev Inv-loop : tie.InvT-loop
 Inv-loop numbers operands n v most₀ i₀ most i =
-    max most (mostUsed v (ordersFrom i (n - i) numbers operands)) ≡ mostUsed v (ordersFrom 0 n numbers operands)
+    max most (largestStored v (ordersFrom i (n - i) numbers operands)) ≡ largestStored v (ordersFrom 0 n numbers operands)
 
 abbrev μ-loop : tie.MeasureT-loop
 μ-loop numbers operands n v most₀ i₀ most i = n - i
@@ -40,7 +40,7 @@ loop-again c =
     let c₂ = c₁ .before in
     let c₃ = c₂ .before in
     used-turn _ _ _ _ _ _ _ (c₂ .loop-test .taken)
-    (c .larger .ensures ∙ ap (max _) (c .before .used-by .ensures ∙ ap (usedBy _) (c₁ .order-at .ensures)))
+    (c .larger .ensures ∙ ap (max _) (c .before .used-by .ensures ∙ ap (storedTo _) (c₁ .order-at .ensures)))
     ∙ c₃ .loop .inv
 
 returns : tie.Need-returns Inv-loop μ-loop

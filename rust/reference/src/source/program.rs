@@ -1,10 +1,11 @@
 //! The statements of a program in order: names, labels and limits.
 
 use super::grammar::{Expression, Instruction, Simple, Statement};
-use super::{refuse, Refusal, LABEL_MISUSED, NAME_MISUSED, NO_SUCH_FORM, OVER_LIMIT};
+use super::{refuse, LABEL_MISUSED, NAME_MISUSED, NO_SUCH_FORM, OVER_LIMIT};
 use crate::object::{LINK_WORDS, MOST_ORDERS, MOST_TEMPORARIES, MOST_VARIABLES};
 use crate::sheet::{self, Sheet};
 use crate::translate::counts;
+use crate::Refusal;
 use std::collections::BTreeMap;
 
 /// "Labels are decimal, 1 to 9999."

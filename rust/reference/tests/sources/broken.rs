@@ -1,12 +1,11 @@
 //! Readers with a mistake each, which the comparison must find.
 
-use skimp_reference::agree::{Compared, Read};
+use skimp_reference::agree::{Call, Compared, COMPILE};
 use skimp_reference::random::Random;
-use skimp_reference::sheet::Sheet;
-use skimp_reference::source::{read, Refusal};
-use skimp_reference::translate::translate;
+use skimp_reference::source::read;
+use skimp_reference::translate::{translate, Translation};
 use skimp_reference::writing::source;
-use skimp_reference::Reply;
+use skimp_reference::{Refusal, Reply};
 
 use crate::compare::{answer, reference};
 
@@ -15,9 +14,9 @@ const SOURCES: usize = 100_000;
 
 /// Holds the comparison to finding a reader's mistake, and to making the source shorter that shows
 /// it.
-fn found(name: &str, reader: Read) {
+fn found(name: &str, reader: Call) {
     let mut random = Random(42);
-    let mut compared = Compared::new(reader);
+    let mut compared = Compared::new(COMPILE, reader);
     let mut sources = (0..SOURCES).map(|_| source(&mut random).1);
     let source = sources.find(|source| compared.read(source).is_err());
     let source = source.unwrap_or_else(|| panic!("{name}: not found"));
@@ -40,7 +39,7 @@ fn wrong_place<const NUMBER: u32>(source: &[u8], buffer: &mut [u8]) -> Reply {
 
 #[test]
 fn wrong_places() {
-    let readers: [Read; 12] = [
+    let readers: [Call; 12] = [
         wrong_place::<0>,
         wrong_place::<1>,
         wrong_place::<2>,
@@ -73,7 +72,7 @@ fn wrong_number<const NUMBER: u32, const OTHER: u32>(source: &[u8], buffer: &mut
 
 #[test]
 fn wrong_numbers() {
-    let readers: [Read; 11] = [
+    let readers: [Call; 11] = [
         wrong_number::<1, 2>,
         wrong_number::<2, 1>,
         wrong_number::<3, 4>,
@@ -194,29 +193,28 @@ fn wrong_bytes() {
 }
 
 /// Refuses what the reference accepts, if `test` holds.
-fn refusing(source: &[u8], buffer: &mut [u8], test: fn(&Sheet) -> bool) -> Reply {
+fn refusing(source: &[u8], buffer: &mut [u8], test: fn(&Translation) -> bool) -> Reply {
     let refusal = Refusal {
         number: 11,
         place: 2,
     };
-    let result = read(source);
-    let refused = result.as_ref().is_ok_and(test);
-    answer(if refused { Err(refusal) } else { result }, buffer)
+    let translation = read(source).map(|sheet| translate(&sheet).expect("within the limits"));
+    let refused = translation.as_ref().is_ok_and(test);
+    let text = translation.map(|translation| translation.text());
+    answer(if refused { Err(refusal) } else { text }, buffer)
 }
 
 fn too_few_variables(source: &[u8], buffer: &mut [u8]) -> Reply {
-    refusing(source, buffer, |sheet| sheet.variables == 64)
+    refusing(source, buffer, |translation| translation.variables == 64)
 }
 
 fn too_few_temporaries(source: &[u8], buffer: &mut [u8]) -> Reply {
-    refusing(source, buffer, |sheet| {
-        translate(sheet).is_some_and(|translation| translation.temporaries == 32)
-    })
+    refusing(source, buffer, |translation| translation.temporaries == 32)
 }
 
 fn too_few_orders(source: &[u8], buffer: &mut [u8]) -> Reply {
-    refusing(source, buffer, |sheet| {
-        translate(sheet).is_some_and(|translation| translation.orders.len() == 1024)
+    refusing(source, buffer, |translation| {
+        translation.orders.len() == 1024
     })
 }
 

@@ -1,23 +1,21 @@
 //! The comparison itself: the reference agrees with itself on random sources of every kind.
 
-use skimp_reference::agree::{Compared, Outcomes};
+use skimp_reference::agree::{Compared, Outcomes, COMPILE};
 use skimp_reference::random::Random;
-use skimp_reference::sheet::Sheet;
-use skimp_reference::source::{read, Refusal};
+use skimp_reference::source::read;
 use skimp_reference::writing::exhaustive::kinds;
 use skimp_reference::writing::{source, MAKINGS};
-use skimp_reference::Reply;
+use skimp_reference::{compile, Refusal, Reply};
 
 /// The reference as the archive would be called.
 pub fn reference(source: &[u8], buffer: &mut [u8]) -> Reply {
-    answer(read(source), buffer)
+    answer(compile(source), buffer)
 }
 
-/// What the archive would answer for a sheet or a refusal.
-pub fn answer(result: Result<Sheet, Refusal>, buffer: &mut [u8]) -> Reply {
+/// What the archive would answer for a text or a refusal.
+pub fn answer(result: Result<String, Refusal>, buffer: &mut [u8]) -> Reply {
     match result {
-        Ok(sheet) => {
-            let text = sheet.text();
+        Ok(text) => {
             buffer[..text.len()].copy_from_slice(text.as_bytes());
             Reply {
                 number: 0,
@@ -34,7 +32,7 @@ pub fn answer(result: Result<Sheet, Refusal>, buffer: &mut [u8]) -> Reply {
 #[test]
 fn every_outcome() {
     let mut random = Random(41);
-    let mut compared = Compared::new(reference);
+    let mut compared = Compared::new(COMPILE, reference);
     let mut outcomes = Outcomes::default();
     let mut by_making = MAKINGS.map(|_| Outcomes::default());
     let mut bytes = 0;
@@ -66,6 +64,6 @@ fn every_small_source() {
         println!("{}: {of_kind}", kind.name);
     }
     println!("{outcomes}");
-    assert!(outcomes.sources >= 1_000_000, "{outcomes}");
+    assert!(outcomes.texts >= 1_000_000, "{outcomes}");
     assert!(outcomes.accepted >= 50_000, "{outcomes}");
 }

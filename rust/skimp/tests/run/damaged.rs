@@ -2,10 +2,10 @@
 
 use std::collections::BTreeSet;
 
+use skimp_reference::damage::texts::{BYTES, DAMAGES};
 use skimp_reference::random::Random;
 
 use crate::call::{Call, REFUSALS};
-use crate::damage::{BYTES, DAMAGES};
 use crate::program::{random_state, Program, STYLES};
 
 const TEXTS_OF_EACH: usize = 2500;

@@ -2,7 +2,6 @@
 //! values of document 01 worked out by hand.
 
 mod call;
-mod damage;
 mod damaged;
 mod orders;
 mod program;

@@ -47,7 +47,20 @@ fn reply(text: &str) -> (u32, u32) {
         budget: 5,
     };
     let outcome = call.outcome(text);
+    same_by_read_back(&call.object, (outcome.number, outcome.value));
     (outcome.number, outcome.value)
+}
+
+/// Read-back refuses an object with 21 to 25 just where run does, with the same place. It knows of no
+/// state.
+fn same_by_read_back(object: &[u8], by_run: (u32, u32)) {
+    let mut sheet = vec![0; skimp::SHEET_MOST];
+    let reply = skimp::raw::read_back(object, &mut sheet);
+    let text = String::from_utf8_lossy(object);
+    match by_run.0 {
+        21..=25 => assert_eq!((reply.number, reply.value), by_run, "{text}"),
+        _ => assert!([0, 31].contains(&reply.number), "{text}"),
+    }
 }
 
 #[test]

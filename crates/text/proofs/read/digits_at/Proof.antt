@@ -24,22 +24,22 @@ cast-t12 c = record { fits = omega (arith, c .before .before .before .loop .inv 
 returns : tie.Need-returns Inv-loop μ-loop
 returns c =
     let l = c .before .before .before in
-    rw (← l .loop .inv .0, digits-here _ _ _ _ (c .before .before .loop-test .taken)) (search cases depth 16)
+    (rw (← l .loop .inv .0, digits-here _ _ _ _ (c .before .before .loop-test .taken)) (search cases depth 16), omega (arith, c .before .before .loop-test .taken))
 
 returns-2 : tie.Need-returns-2 Inv-loop μ-loop
 returns-2 c =
     let l = c .before .before .before .before in
-    rw (← l .loop .inv .0, digits-here _ _ _ _ (c .before .before .before .loop-test .taken)) (search cases depth 16)
+    (rw (← l .loop .inv .0, digits-here _ _ _ _ (c .before .before .before .loop-test .taken)) (search cases depth 16), tt)
 
 returns-3 : tie.Need-returns-3 Inv-loop μ-loop
 returns-3 c =
     let l = c .before .before .before .before .before in
-    rw (← l .loop .inv .0, digits-here _ _ _ _ (c .before .before .before .before .loop-test .taken)) (search cases depth 16)
+    (rw (← l .loop .inv .0, digits-here _ _ _ _ (c .before .before .before .before .loop-test .taken)) (search cases depth 16), tt)
 
 returns-4 : tie.Need-returns-4 Inv-loop μ-loop
 returns-4 c =
     let l = c .before .before .before .before .before .before in
-    rw (← l .loop .inv .0, digits-here _ _ _ _ (c .before .before .before .before .before .loop-test .taken)) (search cases depth 16)
+    (rw (← l .loop .inv .0, digits-here _ _ _ _ (c .before .before .before .before .before .loop-test .taken)) (search cases depth 16), tt)
 
 mul-v : tie.Need-mul-v Inv-loop μ-loop
 mul-v c = record { fits = omega (arith, c .before .before .before .before .before .before .loop .inv .1) }
@@ -53,7 +53,7 @@ add-v c = record { fits = omega (arith, c .before .if3 .left, c .before .before 
 returns-5 : tie.Need-returns-5 Inv-loop μ-loop
 returns-5 c =
     let l = c .before .before .before .before .before .before .before in
-    rw (← l .loop .inv .0, digits-here _ _ _ _ (c .before .before .before .before .before .before .loop-test .taken)) (search cases depth 16)
+    (rw (← l .loop .inv .0, digits-here _ _ _ _ (c .before .before .before .before .before .before .loop-test .taken)) (search cases depth 16), tt)
 
 loop-again : tie.Need-loop-again Inv-loop μ-loop
 loop-again c =
@@ -63,7 +63,7 @@ loop-again c =
     )
 
 returns-6 : tie.Need-returns-6 Inv-loop μ-loop
-returns-6 c = digits-short _ _ _ _ (c .loop-test .left) ∙ c .before .loop .inv .0
+returns-6 c = (digits-short _ _ _ _ (c .loop-test .left) ∙ c .before .loop .inv .0, tt)
 
 pub digits-at-spec : {M : Type 1} → statement M
 digits-at-spec =

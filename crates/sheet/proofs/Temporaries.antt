@@ -1,0 +1,170 @@
+-- T is the largest temporary that an order of the translation stores to: no more, and no fewer.
+use Prim.Native.Nat.{ℕ, suc, _+_, max}
+use mathlib.Core.Path.{_≡_, refl, sym, ap, ap₂, _∙_}
+use mathlib.Core.List.{List, [], _∷_, _++_}
+use native.Mathlib.Omega.{arith}
+use borrow.Author.Tests.{eq-eqb, ne-eqb}
+use lib.Dec.{eqb}
+use lib.ListN.{length}
+use Rattle.base.specs.Choice.{pick}
+use Rattle.base.proofs.Cases.{by-equal}
+use Rattle.order.specs.declared.Operation.{Operation}
+use Rattle.order.specs.declared.Operation.the-variants.{Load, Cmp}
+use Rattle.order.specs.declared.Order.{Order}
+use Rattle.order.specs.declared.Order.the-variants.{Word, Number, Store, Neg, Not, Jump, Send, Stop}
+use Rattle.sheet.specs.Sheet.{Expression, word, constant, negated, inverted, binary, Operand, inWord, itself, workedOut, operand}
+use Rattle.sheet.specs.Sheet.{Simple, set, send, goto, Instruction, simple, when, either, Sheet, sheet, variables}
+use Rattle.sheet.specs.Translation.{operation, temporary, joined, code, simpleCode, comparisonCode, past, choice, closed, instructionCode, instructionsCode, firstOrder, translation}
+use Rattle.sheet.specs.Translation.{joinedTemporaries, temporaries, simpleTemporaries, comparisonTemporaries, instructionTemporaries, temporariesOfAll, sheetTemporaries}
+use Rattle.sheet.specs.Temporaries.{temporaryOf, storedTo, largestStored}
+use Rattle.sheet.specs.Within.{SimpleFormed, InstructionFormed, AllFormed, Formed}
+
+-- ---- the temporaries that an expression uses, with d in use before it: none, or those up to d and its own
+
+unfoldable pub raised : ℕ → ℕ → ℕ
+raised d t = pick (eqb t 0) 0 (d + t)
+
+pub raised-none : (d t : ℕ) → t ≡ 0 → raised d t ≡ 0
+unfolding raised pick
+raised-none d t e = rw (eq-eqb t 0 e) refl
+
+pub raised-some : (d t : ℕ) → (t ≡ 0 → ⊥) → raised d t ≡ d + t
+unfolding raised pick
+raised-some d t n = rw (ne-eqb t 0 n) refl
+
+pub raised-zero : (t : ℕ) → raised 0 t ≡ t
+raised-zero t =
+    by-equal t 0
+    (λ e. raised-none 0 t e ∙ sym e)
+    (λ n. let s = raised-some 0 t n in omega (arith, s))
+
+raised-max : (d a b : ℕ) → raised d (max a b) ≡ max (raised d a) (raised d b)
+raised-max d a b =
+    by-equal a 0
+    (λ e. let m : max a b ≡ b = omega (arith, e) in
+    let r = raised-none d a e in
+    ap (raised d) m ∙ (let z : raised d b ≡ max (raised d a) (raised d b) = omega (arith, r) in z))
+    (λ n. let r = raised-some d a n in
+    let s = raised-some d (max a b) (λ z. n (omega (arith, z))) in
+    by-equal b 0
+    (λ e. let q = raised-none d b e in omega (arith, r, s, q, e))
+    (λ m. let q = raised-some d b m in omega (arith, r, s, q)))
+
+-- two kept operands
+raised-kept : (d t : ℕ) → d + max 2 (1 + t) ≡ max (d + 2) (raised (suc d) t)
+raised-kept d t =
+    by-equal t 0
+    (λ e. let r = raised-none (suc d) t e in omega (arith, r, e))
+    (λ n. let r = raised-some (suc d) t n in omega (arith, r))
+
+pub raised-both : (d l r : ℕ) → raised d (max l (max 2 (1 + r))) ≡ max (raised d l) (max (d + 2) (raised (suc d) r))
+raised-both d l r =
+    raised-max d l (max 2 (1 + r))
+    ∙ ap (max (raised d l)) (raised-some d (max 2 (1 + r)) (λ z. omega (arith, z)) ∙ raised-kept d r)
+
+-- ---- the orders of expressions
+
+module _ (v : ℕ) where
+  stored-append : (l m : List Order) → largestStored v (l ++ m) ≡ max (largestStored v l) (largestStored v m)
+  unfolding largestStored
+  stored-append [] m = omega arith
+  stored-append (o ∷ l) m = let rest = stored-append l m in omega (arith, rest)
+
+  -- the word of temporary d, counted from 1
+  word-of : (d : ℕ) → temporaryOf v (temporary v d) ≡ d + 1
+  word-of d = omega arith
+
+  -- those of the left operand and of the right one, temporary d between them and d+1 behind them
+  kept-most : (d l r : ℕ) → max (max l (max (d + 1) r)) (d + 2) ≡ max l (max (d + 2) r)
+  kept-most d l r = omega arith
+
+  joined-stored :
+      (f : Operation) (d : ℕ) (o : Operand) (left right : List Order) (a b : ℕ)
+      → largestStored v left ≡ raised d a
+      → largestStored v right ≡ raised (suc d) b
+      → largestStored v (joined f v d o left right) ≡ raised d (joinedTemporaries o a b)
+  unfolding largestStored
+  joined-stored f d (inWord w) left right a b p q =
+      let all = stored-append left (Word f w ∷ []) in omega (arith, all, p)
+  joined-stored f d (itself n) left right a b p q =
+      let all = stored-append left (Number f n ∷ []) in omega (arith, all, p)
+  joined-stored f d workedOut left right a b p q =
+      stored-append (left ++ Store (temporary v d) ∷ right)
+      (Store (temporary v (suc d)) ∷ Word Load (temporary v d) ∷ Word f (temporary v (suc d)) ∷ [])
+      ∙ ap₂ max
+      (stored-append left (Store (temporary v d) ∷ right) ∙ ap₂ max p (ap₂ max (word-of d) q))
+      (omega arith)
+      ∙ kept-most d (raised d a) (raised (suc d) b)
+      ∙ sym (raised-both d a b)
+
+  code-stored : (d : ℕ) (e : Expression) → largestStored v (code v d e) ≡ raised d (temporaries e)
+  unfolding code temporaries largestStored
+  code-stored d (word w) = sym (raised-none d 0 refl)
+  code-stored d (constant n) = sym (raised-none d 0 refl)
+  code-stored d (negated e) =
+      let all = stored-append (code v d e) (Neg ∷ []) in let same = code-stored d e in omega (arith, all, same)
+  code-stored d (inverted e) =
+      let all = stored-append (code v d e) (Not ∷ []) in let same = code-stored d e in omega (arith, all, same)
+  code-stored d (binary o l r) =
+      joined-stored (operation o) d (operand r) (code v d l) (code v (suc d) r) (temporaries l) (temporaries r)
+      (code-stored d l) (code-stored (suc d) r)
+
+  -- ---- of instructions
+
+  comparison-stored : (a b : Expression) → largestStored v (comparisonCode v a b) ≡ comparisonTemporaries a b
+  comparison-stored a b =
+      joined-stored Cmp 0 (operand b) (code v 0 a) (code v 1 b) (temporaries a) (temporaries b) (code-stored 0 a) (code-stored 1 b)
+      ∙ raised-zero (comparisonTemporaries a b)
+
+  statement-stored : (e : Expression) (o : Order) → storedTo v o ≡ 0 → largestStored v (code v 0 e ++ o ∷ []) ≡ temporaries e
+  unfolding largestStored
+  statement-stored e o none =
+      let all = stored-append (code v 0 e) (o ∷ []) in
+      let same = code-stored 0 e ∙ raised-zero (temporaries e) in
+      omega (arith, all, same, none)
+
+  module _ (m : ℕ) (to : ℕ → ℕ) where
+    -- SET stores to a variable
+    simple-stored : (u : Simple) → SimpleFormed v m u → largestStored v (simpleCode v to u) ≡ simpleTemporaries u
+    unfolding largestStored
+    simple-stored (set w e) x = statement-stored e (Store w) (omega (arith, x .0 .1))
+    simple-stored (send e) x = statement-stored e Send refl
+    simple-stored (goto s) x = omega arith
+
+    instruction-stored : (p : ℕ) (i : Instruction) → InstructionFormed v m i → largestStored v (instructionCode v to p i) ≡ instructionTemporaries i
+    unfolding largestStored
+    instruction-stored p (simple u) x = simple-stored u x
+    instruction-stored p (when r a b u) x =
+        let all = stored-append (comparisonCode v a b) (choice r (p + length (comparisonCode v a b)) (simpleCode v to u)) in
+        let compared = comparison-stored a b in
+        let first = simple-stored u (x .2) in
+        omega (arith, all, compared, first)
+    instruction-stored p (either r a b u w) x =
+        let k = p + length (comparisonCode v a b) in
+        let us = simpleCode v to u in
+        let ws = simpleCode v to w in
+        let all = stored-append (comparisonCode v a b ++ choice r k (closed (k + 1) us ws)) ws in
+        let front = stored-append (comparisonCode v a b) (choice r k (closed (k + 1) us ws)) in
+        let over = stored-append us (Jump (past (k + 1 + length us) ws) ∷ []) in
+        let compared = comparison-stored a b in
+        let first = simple-stored u (x .2) in
+        let second = simple-stored w (x .3) in
+        omega (arith, all, front, over, compared, first, second)
+
+    instructions-stored : (p : ℕ) (is : List Instruction) → AllFormed v m is → largestStored v (instructionsCode v to p is) ≡ temporariesOfAll is
+    unfolding instructionsCode AllFormed temporariesOfAll largestStored
+    instructions-stored p [] x = refl
+    instructions-stored p (i ∷ is) x =
+        let here = instructionCode v to p i in
+        let all = stored-append here (instructionsCode v to (p + length here) is) in
+        let first = instruction-stored p i (x .0) in
+        let rest = instructions-stored (p + length here) is (x .1) in
+        omega (arith, all, first, rest)
+
+-- "T is the most that any statement uses."
+pub temporaries-stored : (s : Sheet) → Formed s → largestStored (variables s) (translation s) ≡ sheetTemporaries s
+unfolding largestStored
+temporaries-stored (sheet v is) x =
+    let all = stored-append v (instructionsCode v (firstOrder v is) 0 is) (Stop ∷ []) in
+    let most = instructions-stored v (length is) (firstOrder v is) 0 is x in
+    omega (arith, all, most)

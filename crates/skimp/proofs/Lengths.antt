@@ -1,0 +1,192 @@
+-- How long the texts of a sheet within the limits are at most.
+use Prim.Native.Nat.{ℕ, zero, suc, _+_, _*_, _/_, _%_, _≤_}
+use Prim.Native.String.{String}
+use mathlib.Core.Path.{_≡_, refl, sym, ap, _∙_}
+use mathlib.Core.List.{List, [], _∷_, _++_}
+use native.Mathlib.Omega.{arith}
+use lib.Dec.{ltb}
+use lib.ListN.{length, length-append}
+use Rattle.base.specs.Text.{bytes}
+use Rattle.base.proofs.Cases.{either-part}
+use Rattle.word.specs.declared.Relation.{Relation}
+use Rattle.word.specs.declared.Relation.the-variants.{Equal, Unequal, Less, AtMost, Greater, AtLeast}
+use Rattle.text.specs.Pieces.{digitsOf, decimal}
+use Rattle.order.specs.declared.Operation.{Operation}
+use Rattle.order.specs.declared.Operation.the-variants.{Load, Add, Sub, Mlt, Div, Exp, Shl, Shr, And, Or, Xor, Cmp}
+use Rattle.order.specs.declared.Order.{Order}
+use Rattle.order.specs.declared.Order.the-variants.{Word, Number, Store, Neg, Not, Jump, Branch, Send, Stop}
+use Rattle.order.specs.Order.{operationName, branchName, name, kind, operand}
+use Rattle.order.specs.Object.{recordText, recordsText, headerText, text}
+use Rattle.sheet.specs.declared.Operator.{Operator}
+use Rattle.sheet.specs.declared.Operator.the-variants.{Plus, Minus, Times, Over, Power, Left, Right, And as Both, Or as Any, Unlike}
+use Rattle.sheet.specs.declared.Field.{Field}
+use Rattle.sheet.specs.declared.Field.the-variants.{Else, Then, Send as FieldSend, Neg as FieldNeg, Not as FieldNot, Binary, If, Word as FieldWord, Constant, Set, Goto}
+use Rattle.sheet.specs.Sheet.{Simple, set, send, goto, Instruction, simple, when, either, Sheet, sheet, variables}
+use Rattle.sheet.specs.Within.{Within}
+use Rattle.sheet.specs.Fields.{simpleFields, instructionFields, fieldsOfAll, operatorText, relationText, fieldText, lineRest, line, lines, sheetText}
+use Rattle.sheet.specs.Translation.{ordersOfAll, translation, sheetTemporaries, objectText}
+use Rattle.translate_size.proofs.Lengths.{translation-length, fields-twice}
+
+-- ---- numbers
+
+digits-few : (k n : ℕ) → length (digitsOf k n) ≤ k
+unfolding digitsOf
+digits-few zero n = omega arith
+digits-few (suc k) n =
+    let more = digits-few k (n / 10) in
+    either-part (λ l. length l ≤ suc k) (ltb n 10) ((n + 48) ∷ []) (digitsOf k (n / 10) ++ ((n % 10 + 48) ∷ []))
+    (λ y. omega arith)
+    (λ no. omega (arith, more, length-append (digitsOf k (n / 10)) ((n % 10 + 48) ∷ [])))
+
+decimal-few : (n : ℕ) → length (decimal n) ≤ 10
+decimal-few n = digits-few 10 n
+
+-- two texts, one behind the other
+both-few : {A : Type 0} (l m : List A) (a b : ℕ) → length l ≤ a → length m ≤ b → length (l ++ m) ≤ a + b
+both-few l m a b h g = rw (length-append l m) (omega (arith, h, g))
+
+-- ---- the object
+
+operation-few : (f : Operation) → length (bytes (operationName f)) ≤ 4
+unfolding bytes
+operation-few Load = omega arith
+operation-few Add = omega arith
+operation-few Sub = omega arith
+operation-few Mlt = omega arith
+operation-few Div = omega arith
+operation-few Exp = omega arith
+operation-few Shl = omega arith
+operation-few Shr = omega arith
+operation-few And = omega arith
+operation-few Or = omega arith
+operation-few Xor = omega arith
+operation-few Cmp = omega arith
+
+branch-few : (r : Relation) → length (bytes (branchName r)) ≤ 4
+unfolding bytes
+branch-few Equal = omega arith
+branch-few Unequal = omega arith
+branch-few Less = omega arith
+branch-few AtMost = omega arith
+branch-few Greater = omega arith
+branch-few AtLeast = omega arith
+
+name-few : (o : Order) → length (bytes (name o)) ≤ 4
+unfolding bytes
+name-few (Word f w) = operation-few f
+name-few (Number f n) = operation-few f
+name-few (Store w) = omega arith
+name-few Neg = omega arith
+name-few Not = omega arith
+name-few (Jump a) = omega arith
+name-few (Branch r a) = branch-few r
+name-few Send = omega arith
+name-few Stop = omega arith
+
+kind-few : (o : Order) → length (bytes (kind o)) ≤ 1
+unfolding bytes
+kind-few (Word f w) = omega arith
+kind-few (Number f n) = omega arith
+kind-few (Store w) = omega arith
+kind-few Neg = omega arith
+kind-few Not = omega arith
+kind-few (Jump a) = omega arith
+kind-few (Branch r a) = omega arith
+kind-few Send = omega arith
+kind-few Stop = omega arith
+
+record-few : (o : Order) → length (recordText o) ≤ 18
+record-few o =
+    let e : length (recordText o) ≡ length (bytes (name o)) + suc (length (bytes (kind o))) + 1 + length (decimal (operand o)) + 1 = simp length-append in
+    omega (arith, e, name-few o, kind-few o, decimal-few (operand o))
+
+records-few : (os : List Order) → length (recordsText os) ≤ 18 * length os
+unfolding recordsText
+records-few [] = omega arith
+records-few (o ∷ os) =
+    let all = both-few (recordText o) (recordsText os) 18 (18 * length os) (record-few o) (records-few os) in
+    omega (arith, all)
+
+header-few : (v t n : ℕ) → length (headerText v t n) ≤ 37
+unfolding bytes
+header-few v t n =
+    let e : length (headerText v t n) ≡ 4 + length (decimal v) + suc (length (decimal t)) + suc (length (decimal n)) + 1 = simp length-append in
+    omega (arith, e, decimal-few v, decimal-few t, decimal-few n)
+
+text-few : (v t : ℕ) (os : List Order) → length (text v t os) ≤ 37 + 18 * length os
+unfolding text
+text-few v t os = both-few (headerText v t (length os)) (recordsText os) 37 (18 * length os) (header-few v t (length os)) (records-few os)
+
+pub object-few : (s : Sheet) → Within s → length (objectText s) ≤ 18469
+object-few s w = let all = text-few (variables s) (sheetTemporaries s) (translation s) in omega (arith, all, w .few-orders)
+
+-- ---- the sheet
+
+operator-few : (o : Operator) → length (bytes (operatorText o)) ≤ 15
+unfolding bytes
+operator-few Plus = omega arith
+operator-few Minus = omega arith
+operator-few Times = omega arith
+operator-few Over = omega arith
+operator-few Power = omega arith
+operator-few Left = omega arith
+operator-few Right = omega arith
+operator-few Both = omega arith
+operator-few Any = omega arith
+operator-few Unlike = omega arith
+
+relation-few : (r : Relation) → length (bytes (relationText r)) ≤ 12
+unfolding bytes
+relation-few Equal = omega arith
+relation-few Unequal = omega arith
+relation-few Less = omega arith
+relation-few AtMost = omega arith
+relation-few Greater = omega arith
+relation-few AtLeast = omega arith
+
+field-few : (f : Field) → length (fieldText f) ≤ 15
+unfolding bytes
+field-few Else = omega arith
+field-few Then = omega arith
+field-few FieldSend = omega arith
+field-few FieldNeg = omega arith
+field-few FieldNot = omega arith
+field-few (Binary o) = operator-few o
+field-few (If r) = both-few (bytes "IF\t") (bytes (relationText r)) 3 12 (omega arith) (relation-few r)
+field-few (FieldWord w) = both-few (bytes "W") (decimal w) 5 10 (omega arith) (decimal-few w)
+field-few (Constant n) = both-few (bytes "K") (decimal n) 5 10 (omega arith) (decimal-few n)
+field-few (Set w) = both-few (bytes "SET\t") (decimal w) 5 10 (omega arith) (decimal-few w)
+field-few (Goto s) = both-few (bytes "GOTO\t") (decimal s) 5 10 (omega arith) (decimal-few s)
+
+rest-few : (fs : List Field) → length (lineRest fs) ≤ 16 * length fs + 1
+unfolding lineRest
+rest-few [] = omega arith
+rest-few (f ∷ fs) =
+    let all = both-few (fieldText f) (lineRest fs) 15 (16 * length fs + 1) (field-few f) (rest-few fs) in
+    omega (arith, all)
+
+line-few : (f : Field) (fs : List Field) → length (line (f ∷ fs)) ≤ 16 * length (f ∷ fs)
+unfolding line
+line-few f fs =
+    let all = both-few (fieldText f) (lineRest fs) 15 (16 * length fs + 1) (field-few f) (rest-few fs) in
+    omega (arith, all)
+
+instruction-few : (i : Instruction) → length (line (instructionFields i)) ≤ 16 * length (instructionFields i)
+instruction-few (simple (set w e)) = line-few _ _
+instruction-few (simple (send e)) = line-few _ _
+instruction-few (simple (goto s)) = line-few _ _
+instruction-few (when r a b u) = line-few _ _
+instruction-few (either r a b u w) = line-few _ _
+
+lines-few : (is : List Instruction) → length (lines is) ≤ 16 * length (fieldsOfAll is)
+unfolding lines fieldsOfAll
+lines-few [] = omega arith
+lines-few (i ∷ is) =
+    let all = both-few (line (instructionFields i)) (lines is) _ _ (instruction-few i) (lines-few is) in
+    omega (arith, all, length-append (instructionFields i) (fieldsOfAll is))
+
+pub sheet-few : (s : Sheet) → Within s → length (sheetText s) ≤ 32768
+unfolding bytes
+sheet-few (sheet v is) w =
+    let e : length (sheetText (sheet v is)) ≡ 6 + length (decimal v) + suc (length (decimal (length is))) + suc (length (lines is)) = simp length-append in
+    omega (arith, e, decimal-few v, decimal-few (length is), lines-few is, fields-twice v is, translation-length v is, w .few-orders)

@@ -1,0 +1,5 @@
+pub mod Lengths
+pub mod States
+pub mod Written
+pub mod Starts
+pub mod Promises

@@ -1,0 +1,231 @@
+//! Inputs that need much stack, and random ones: what is refused counts as well as what is accepted.
+
+use skimp_reference::damage::orders::DAMAGES;
+use skimp_reference::generate::Plan;
+use skimp_reference::random::Random;
+use skimp_reference::translate::translate;
+use skimp_reference::writing::source;
+
+#[derive(Clone, Copy, Debug, PartialEq, Eq)]
+pub enum Call {
+    Compile,
+    ReadBack,
+    Run,
+}
+
+pub const CALLS: [Call; 3] = [Call::Compile, Call::ReadBack, Call::Run];
+
+impl Call {
+    /// What include/skimp.h says that the call needs.
+    pub fn stack_bytes(self) -> usize {
+        match self {
+            Call::Compile => skimp::COMPILE_STACK_BYTES,
+            Call::ReadBack => skimp::READ_BACK_STACK_BYTES,
+            Call::Run => skimp::RUN_STACK_BYTES,
+        }
+    }
+
+    pub fn inputs(self) -> Vec<Vec<u8>> {
+        match self {
+            Call::Compile => sources(),
+            Call::ReadBack | Call::Run => objects(),
+        }
+    }
+}
+
+/// The cells of a statement before its end mark.
+const CELLS: usize = 255;
+
+/// What may stand before an expression, and what closes it.
+const FORMS: [(&str, &str); 7] = [
+    ("A=", ""),
+    ("SEND(", ")"),
+    ("%IF ", "=A%THEN A=A"),
+    ("%IF A=", "%THEN A=A"),
+    ("%IF A=A %THEN A=", ""),
+    ("%IF A=A %THEN SEND(", ")"),
+    ("1:%IF A=A %THEN A=A %ELSE SEND(", ")"),
+];
+
+/// What an expression nests, over and over, with what closes it.
+const PIECES: [(&str, &str); 20] = [
+    ("(", ")"),
+    ("-(", ")"),
+    ("\\(", ")"),
+    ("+(", ")"),
+    ("(-(", "))"),
+    ("A-(", ")"),
+    ("A*(", ")"),
+    ("A**(", ")"),
+    ("-A-(", ")"),
+    ("\\A**(", ")"),
+    ("A-A*(", ")"),
+    ("A-A*A**(", ")"),
+    ("-A*A**(", ")"),
+    ("(A", ")"),
+    ("A-", ""),
+    ("A*", ""),
+    ("A**", ""),
+    ("A-A*A**", ""),
+    ("-", ""),
+    ("\\", ""),
+];
+
+/// How many cells a text has.
+fn cells(text: &str) -> usize {
+    text.bytes().filter(|byte| !b" %".contains(byte)).count()
+}
+
+/// Statements of as many cells as there may be, and of as many temporaries.
+fn statements() -> Vec<String> {
+    let mut statements = Vec::new();
+    for (start, end) in FORMS {
+        for (open, close) in PIECES {
+            // left open, it nests deeper than any that is accepted
+            let deepest = (CELLS - cells(start)) / cells(open);
+            for last in ["", "A"] {
+                let nested = open.repeat(deepest);
+                statements.push(format!("{start}{}{last}", &nested[last.len()..]));
+            }
+            let room = CELLS - cells(start) - cells(end) - 1;
+            let most = room / cells(&[open, close].concat());
+            for depth in [most, most.min(31), most.min(30)] {
+                let (nested, closed) = (open.repeat(depth), close.repeat(depth));
+                statements.push(format!("{start}{nested}A{closed}{end}"));
+            }
+        }
+    }
+    statements
+}
+
+fn sources() -> Vec<Vec<u8>> {
+    let program = |text: String| format!("%BEGIN\n%INTEGER A\n{text}\n%ENDOFPROGRAM\n");
+    let mut sources: Vec<String> = statements().into_iter().map(program).collect();
+    // full tables: names, labels, jumps; and cells in quotes up to the last
+    let names = (0..63).map(|number| format!("%INTEGER N{number:0>230}\n"));
+    sources.push(format!("%BEGIN\n{}", names.collect::<String>()));
+    let labels = (1..=64).map(|label| format!("{label}:->{label}\n"));
+    sources.push(program(labels.collect()));
+    sources.push(program(format!("1:{}", "->1\n".repeat(1023))));
+    sources.push(program(format!("A='{}'", ";\n".repeat(126))));
+    sources.push(String::new());
+    let mut sources: Vec<Vec<u8>> = sources.into_iter().map(String::into_bytes).collect();
+    let mut random = Random(81);
+    sources.extend((0..2000).map(|_| source(&mut random).1));
+    sources
+}
+
+/// What orders may begin with.
+const STARTS: [&str; 5] = [
+    "LOAD D 2",
+    "",
+    "LOAD D 2;CMP K 0;BNE A 1022",
+    "LOAD D 2;CMP K 0;BNE A 4;JMP A 0",
+    "LOAD D 2;STR D 3;LOAD D 2",
+];
+
+/// What comes over and over.
+const PARTS: [&str; 16] = [
+    "NEG - 0",
+    "NOT - 0",
+    "SUB K 1",
+    "ADD D 2",
+    "NEG - 0;SUB K 1",
+    "LOAD D 2;STR D 2",
+    "LOAD D 2",
+    "STR D 2",
+    "JMP A 0",
+    "BNE A 0",
+    "CMP D 2",
+    "SEND - 0",
+    "LOAD D 2;CMP K 0;BNE A 1023;JMP A 0",
+    "STR D 3;LOAD D 2;NEG - 0;STR D 4;LOAD D 3;SUB D 4",
+    "STR D 3;STR D 4;LOAD D 3;SUB D 4",
+    "STR D 4;LOAD D 3;SUB D 4",
+];
+
+/// What they may end with.
+const ENDS: [&str; 8] = [
+    "STR D 2",
+    "SEND - 0",
+    "",
+    "CMP K 0;BNE A 1023;JMP A 0",
+    "CMP K 0;BNE A 1022;JMP A 1023;JMP A 0",
+    "CMP K 0;BNE A 1022;LOAD K 1;SEND - 0",
+    "STR D 4;LOAD D 3;SUB D 4;STR D 2",
+    "STR D 4;LOAD D 3;CMP D 4;BNE A 1023;JMP A 0",
+];
+
+/// The orders before STOP.
+const ORDERS: usize = 1023;
+
+/// One variable, and temporaries from word 3.
+fn object(temporaries: usize, orders: &[String]) -> Vec<u8> {
+    let (count, lines) = (orders.len() + 1, orders.join("\n"));
+    let text = format!("BOX 1 {temporaries} {count}\n{lines}\nSTOP - 0\n");
+    text.replace(' ', "\t").into_bytes()
+}
+
+/// The orders of a part.
+fn orders(part: &str) -> Vec<String> {
+    let parts = part.split(';').filter(|order| !order.is_empty());
+    parts.map(str::to_string).collect()
+}
+
+/// One order over and over.
+fn times(order: &str, count: usize) -> Vec<String> {
+    vec![order.to_string(); count]
+}
+
+fn objects() -> Vec<Vec<u8>> {
+    let mut objects = Vec::new();
+    for start in STARTS.map(orders) {
+        for part in PARTS.map(orders) {
+            for end in ENDS.map(orders) {
+                let left = ORDERS - start.len() - end.len();
+                let rest = times("NEG - 0", left % part.len());
+                let parts = vec![part.clone(); left / part.len()].concat();
+                let all = [start.clone(), rest, parts, end].concat();
+                objects.extend([0, 2, 32].map(|temporaries| object(temporaries, &all)));
+            }
+        }
+    }
+    for depth in 1..=31 {
+        objects.extend([0, 1, 2].map(|place| nested(depth, place)));
+    }
+    let mut random = Random(82);
+    for _ in 0..300 {
+        let sheet = Plan::large_sheet(&mut random);
+        let mut translation = translate(&sheet).expect("within the limits");
+        objects.push(translation.text().into_bytes());
+        random.pick(&DAMAGES).1(&mut random, &mut translation);
+        objects.push(translation.text().into_bytes());
+    }
+    objects
+}
+
+/// The translation of an expression that nests to the right, the orders that are left as a chain in
+/// its left operand, inside, or behind it.
+fn nested(depth: usize, place: usize) -> Vec<u8> {
+    let chain = |here: usize| {
+        let count = ORDERS - 5 * depth - 3;
+        times("NEG - 0", if here == place { count } else { 0 })
+    };
+    let mut all = orders("LOAD D 2");
+    all.extend(chain(0));
+    for level in 0..depth {
+        all.push(format!("STR D {}", 3 + level));
+        all.push("LOAD D 2".to_string());
+    }
+    all.push("NEG - 0".to_string());
+    all.extend(chain(1));
+    for left in (3..3 + depth).rev() {
+        let right = left + 1;
+        all.extend(orders(&format!(
+            "STR D {right};LOAD D {left};SUB D {right}"
+        )));
+    }
+    all.extend(chain(2));
+    all.push("STR D 2".to_string());
+    object(depth + 1, &all)
+}

@@ -1,0 +1,6 @@
+//! Compile.
+
+mod exhaustive;
+mod limits;
+mod random_sources;
+mod rooms;

@@ -1,0 +1,86 @@
+//! Sheets at the limits, and past one of them by one.
+
+use skimp_reference::agree::{Compared, READ_BACK};
+use skimp_reference::census::Census;
+use skimp_reference::generate::Plan;
+use skimp_reference::random::Random;
+use skimp_reference::sheet::{Expression, Instruction, Sheet, Simple};
+use skimp_reference::translate::without_limits;
+use skimp_reference::Refusal;
+
+use super::check_sheet;
+use crate::read_back_call;
+
+/// Holds the orders of a sheet over a limit to being refused for their header.
+fn refused(compared: &mut Compared, name: &str, sheet: &Sheet) {
+    let outcome = compared.check(name, without_limits(sheet).text().as_bytes());
+    let refusal = Refusal {
+        number: 21,
+        place: 0,
+    };
+    assert_eq!(outcome, Err(refusal), "{name}: {}", sheet.text());
+}
+
+#[test]
+fn random_sheets() {
+    let name = "limits, seed 23";
+    let mut random = Random(23);
+    let mut compared = Compared::new(READ_BACK, read_back_call);
+    let mut census = Census::default();
+    for one in [false, true] {
+        for _ in 0..50 {
+            let sheet = Plan::exact_sheet(&mut random, [64, 32, 1024], one);
+            let translation = check_sheet(&mut compared, name, &sheet);
+            census.add(&sheet, &translation);
+            for over in [
+                [65, 32, 1024],
+                [64, 33, 1024],
+                [64, 32, 1025],
+                // over one limit, far from the others
+                [65, 0, 20],
+                [0, 33, 200],
+                [0, 0, 1025],
+            ] {
+                let sheet = Plan::exact_sheet(&mut random, over, one);
+                refused(&mut compared, name, &sheet);
+            }
+        }
+    }
+    assert_eq!(census.with_variables(64), 100, "{name}");
+    assert_eq!(census.with_temporaries(32), 100, "{name}");
+    assert_eq!(census.with_orders(1024), 100, "{name}");
+    assert_eq!(census.with_instructions(1), 50, "{name}");
+}
+
+/// The most and the least instructions, and every word and the longest constants.
+#[test]
+fn plain_sheets() {
+    let mut compared = Compared::new(READ_BACK, read_back_call);
+    let sheet = |variables, instructions| Sheet {
+        variables,
+        instructions,
+    };
+    let jumps = |count: u32| {
+        let jump = |number| Instruction::Simple(Simple::Goto(count + 1 - number));
+        (0..count).map(jump).collect::<Vec<_>>()
+    };
+    for variables in [0, 64] {
+        let none = sheet(variables, Vec::new());
+        check_sheet(&mut compared, "no instruction", &none);
+        let most = sheet(variables, jumps(1023));
+        check_sheet(&mut compared, "1,023 jumps", &most);
+        let over = sheet(variables, jumps(1024));
+        refused(&mut compared, "1,024 jumps", &over);
+    }
+    let over = sheet(65, Vec::new());
+    refused(&mut compared, "65 variables, none named", &over);
+    for constant in [0, 9, 10, 999_999_999, 1_000_000_000, 2_147_483_647] {
+        let value = Expression::Constant(constant);
+        let send = Instruction::Simple(Simple::Send(value));
+        check_sheet(&mut compared, "a constant", &sheet(0, vec![send]));
+    }
+    for word in 2..=65 {
+        let set = Instruction::Simple(Simple::Set(word, Expression::Word(67 - word)));
+        check_sheet(&mut compared, "a word", &sheet(64, vec![set]));
+    }
+}
