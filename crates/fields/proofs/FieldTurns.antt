@@ -15,7 +15,7 @@ use Rattle.base.proofs.Cases.{by-test, by-less}
 use Rattle.base.proofs.Lists.{map-at}
 use Rattle.base.proofs.Places.{each-more, each-over, each-append, each-same, each-map}
 use Rattle.sheet.specs.declared.Field.{Field}
-use Rattle.sheet.specs.declared.Field.the-variants.{Else, Then, Send, Neg, Not, Binary, If, Word, Constant, Set, Goto}
+use Rattle.sheet.specs.declared.Field.the-variants.{Else, Goto}
 use Rattle.sheet_field.specs.Memory.{shapes, fieldOf, fieldsFrom}
 use Rattle.sheet_field.proofs.Stored.{fields-each, fields-length}
 use Rattle.source.specs.Program.{isLabel, all, Label, numberOf}
@@ -25,7 +25,7 @@ use Rattle.fields.specs.declared.Way.{Way}
 use Rattle.fields.specs.declared.Way.the-variants.{On, Unset}
 use Rattle.fields.specs.Internal.{LeadsOne, fieldIn, goodJump, packedValue}
 use Rattle.fields.specs.Memory.{fieldKnown, fieldsKnown, jumpOf, withJump, fieldJumps, packedField}
-use Rattle.fields.specs.Answers.{fields, noRoom, fit, putOf, LedFields, led, refusal, behindField, ledOne, ledAll, told, unfit, ledOf}
+use Rattle.fields.specs.Answers.{fields, noRoom, putOf, LedFields, led, refusal, behindField, ledOne, ledAll, told, unfit, ledOf}
 use Rattle.fields.specs.Internal.{Appended}
 
 -- ---- a test of every field

@@ -1,11 +1,10 @@
 -- What the fields of an instruction tell in memory is what the definitions say of the instruction.
-use Prim.Native.Nat.{ℕ}
 use mathlib.Core.Bool.{Bool, true, false}
 use mathlib.Core.Path.{_≡_, refl, sym, ap, ap₂, _∙_}
 use mathlib.Core.List.{List, [], _∷_, _++_}
 use Rattle.base.specs.Choice.{pick}
 use Rattle.sheet.specs.declared.Field.{Field}
-use Rattle.sheet.specs.declared.Field.the-variants.{Else, Then, Send, Neg, Not, Binary, If, Word, Constant, Set, Goto}
+use Rattle.sheet.specs.declared.Field.the-variants.{Else, Then, If}
 use Rattle.sheet.specs.Sheet.{Expression, word, constant, negated, inverted, binary, Simple, set, send, goto, Instruction, simple, when, either}
 use Rattle.sheet.specs.Fields.{expressionFields, simpleFields, instructionFields}
 use Rattle.source.specs.Program.{isKnown, allKnown, knownSimple, known, simpleJumps, jumpsIn}

@@ -22,7 +22,7 @@ use Rattle.source.proofs.Stored.{lexemes-each}
 use Rattle.names.specs.declared.Declared.{Declared}
 use Rattle.names.specs.declared.Declared.the-variants.{Names as Declares, Refused, Unfit}
 use Rattle.names.specs.Memory.{nameAt, namesOf}
-use Rattle.names.specs.Answers.{Names, names, refusal, unfit, declaredIn, declaredAll, fit, declaredOf}
+use Rattle.names.specs.Answers.{Names, names, refusal, unfit, declaredAll, fit, declaredOf}
 use Rattle.names.specs.Internal.{stored, oneIfName, namesAmong, Declaring, DeclaresAll}
 
 -- ---- what stands before a place
