@@ -21,6 +21,25 @@ pub struct Rules {
     behind: &'static [u8],
 }
 
+impl Rules {
+    /// The text, or the refusal of a buffer that is too short for it, or the refusal that comes
+    /// before.
+    fn within<'t>(
+        &self,
+        expected: &'t Result<String, Refusal>,
+        room: usize,
+    ) -> Result<&'t str, Refusal> {
+        match expected {
+            Ok(text) if text.len() <= room => Ok(text),
+            Ok(_) => Err(Refusal {
+                number: self.too_short,
+                place: 0,
+            }),
+            Err(refusal) => Err(*refusal),
+        }
+    }
+}
+
 pub const COMPILE: Rules = Rules {
     text: compile,
     too_short: 12,
@@ -56,7 +75,7 @@ pub type Outcome = Result<(), Refusal>;
 impl Compared {
     pub fn new(rules: Rules, call: Call) -> Compared {
         let length = MARGIN + rules.most + MARGIN;
-        // no byte like its neighbours, and none that a text has twice in a row
+        // neighbours differ, so that bytes that were moved show
         let before: Vec<u8> = (0..length).map(|place| (place * 37 % 251) as u8).collect();
         Compared {
             call,
@@ -81,19 +100,17 @@ impl Compared {
         expected: &Result<String, Refusal>,
         room: usize,
     ) -> Result<Outcome, String> {
-        let expected = expected.as_deref().map_err(|refusal| *refusal);
-        let expected = expected.and_then(|text| match text.len() <= room {
-            true => Ok(text),
-            false => Err(Refusal {
-                number: self.rules.too_short,
-                place: 0,
-            }),
-        });
-        let (number, value) = match expected {
-            Ok(text) => (0, text.len() as u32),
-            Err(refusal) => (refusal.number, refusal.place),
+        let expected = self.rules.within(expected, room);
+        let reply = match expected {
+            Ok(text) => Reply {
+                number: 0,
+                value: text.len() as u32,
+            },
+            Err(Refusal { number, place }) => Reply {
+                number,
+                value: place,
+            },
         };
-        let reply = Reply { number, value };
         let text = expected.unwrap_or_default().as_bytes();
         let got = self.make_call(input, room);
         let difference = if got != reply {
@@ -104,16 +121,10 @@ impl Compared {
         } else {
             None
         };
+        self.lent.copy_from_slice(&self.before);
         match difference {
-            Some(difference) => {
-                self.lent.copy_from_slice(&self.before);
-                Err(difference)
-            }
-            None => {
-                let written = MARGIN..MARGIN + text.len();
-                self.lent[written.clone()].copy_from_slice(&self.before[written]);
-                Ok(expected.map(|_| ()))
-            }
+            Some(difference) => Err(difference),
+            None => Ok(expected.map(|_| ())),
         }
     }
 
@@ -122,10 +133,11 @@ impl Compared {
         self.input.push(b'%');
         self.input.extend(input);
         self.input.extend(self.rules.behind);
-        (self.call)(
-            &self.input[1..1 + input.len()],
-            &mut self.lent[MARGIN..MARGIN + room],
-        )
+        let read = 1..1 + input.len();
+        let lent = &mut self.lent[MARGIN..MARGIN + room];
+        let reply = (self.call)(&self.input[read.clone()], lent);
+        assert!(self.input[read] == *input, "the call wrote to its input");
+        reply
     }
 
     /// Whether the text stands at the buffer's front and every other byte is as it was.

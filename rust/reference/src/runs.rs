@@ -32,66 +32,55 @@ struct Lent {
     output: Vec<u8>,
 }
 
+/// A program and the run that it is held to. `run` takes what `skimp_run` takes, and gives the number
+/// and the steps.
+struct Program<'a, R> {
+    name: &'a str,
+    sheet: &'a Sheet,
+    object: Vec<u8>,
+    start: Lent,
+    firsts: Vec<u32>,
+    run: R,
+}
+
 impl Runs {
     /// "For every k that it reaches, the run with the count of the first k instructions as budget
     /// reports that count as its steps and has its variables and numbers sent." `run` takes what
     /// `skimp_run` takes, and gives the number and the steps.
     pub fn hold(
         &mut self,
-        source: &str,
+        name: &str,
         sheet: &Sheet,
         translation: &Translation,
         room: usize,
         run: impl Fn(&[u8], &mut [u8], &mut [u8], u32) -> (u32, u32),
     ) {
-        let object = translation.text().into_bytes();
         let words = 2 + translation.variables + translation.temporaries;
-        let start = Lent {
-            state: vec![0; HEADER + 4 * words as usize],
-            output: vec![UNTOUCHED; 4 * room + ODD_BYTES],
-        };
-        let run = |lent: &mut Lent, budget: u64| {
-            let budget = budget.try_into().expect("few instructions");
-            run(&object, &mut lent.state, &mut lent.output, budget)
-        };
-        let firsts = first_orders(sheet);
-        let mut check = |meaning: &Meaning, budget: u64| {
-            let mut lent = start.clone();
-            let reply = run(&mut lent, budget);
-            let ending = meaning.ending.map_or(0, |ending| ending as u32);
-            let as_meant = reply == (ending, meaning.count as u32) && lent.is_of(meaning, &firsts);
-            assert!(
-                as_meant,
-                "{source}: with budget {budget} and room {room} the run gives {reply:?} and\n\
-                 {lent:?}\nmeant are {ending} and {} steps, {:?}, sent {:?}\n{}",
-                meaning.count,
-                meaning.variables,
-                meaning.sent,
-                sheet.text()
-            );
-            self.runs += 1;
-            lent
+        let program = Program {
+            name,
+            sheet,
+            object: translation.text().into_bytes(),
+            start: Lent {
+                state: vec![0; HEADER + 4 * words as usize],
+                output: vec![UNTOUCHED; 4 * room + ODD_BYTES],
+            },
+            firsts: first_orders(sheet),
+            run,
         };
         let mut meaning = Meaning::new(sheet, room);
-        let mut resumed = check(&meaning, 0);
-        for turn in 0..MOST_INSTRUCTIONS as u64 {
+        let mut resumed = program.whole(&meaning, 0);
+        self.runs += 1;
+        for turn in 0..MOST_INSTRUCTIONS {
             let before = meaning.count;
             meaning.advance();
-            let whole = check(&meaning, meaning.count);
-            // the same in slices, each instruction in two
-            let steps = meaning.count - before;
-            let first = turn % (steps + 1);
-            let replies = [first, steps - first].map(|budget| run(&mut resumed, budget));
-            let ending = meaning.ending.map_or(0, |ending| ending as u32);
-            let in_slices = (replies[1].0, u64::from(replies[0].1 + replies[1].1));
-            assert!(
-                in_slices == (ending, steps) && resumed == whole,
-                "{source}: in slices {replies:?} and\n{resumed:?}, not\n{whole:?}\n{}",
-                sheet.text()
-            );
+            let whole = program.whole(&meaning, meaning.count);
+            program.go_on(&mut resumed, &meaning, meaning.count - before, turn);
+            assert!(resumed == whole, "{name}: in slices\n{}", sheet.text());
+            self.runs += 2;
             if meaning.ending.is_some() {
                 for budget in [meaning.count + 1, meaning.count + 100, u64::from(u32::MAX)] {
-                    check(&meaning, budget);
+                    program.whole(&meaning, budget);
+                    self.runs += 1;
                 }
                 break;
             }
@@ -130,17 +119,58 @@ impl Runs {
     }
 }
 
+impl<R: Fn(&[u8], &mut [u8], &mut [u8], u32) -> (u32, u32)> Program<'_, R> {
+    fn run(&self, lent: &mut Lent, budget: u64) -> (u32, u32) {
+        let budget = budget.try_into().expect("few instructions");
+        (self.run)(&self.object, &mut lent.state, &mut lent.output, budget)
+    }
+
+    /// Runs the program from the start, and holds what comes of it to the meaning.
+    fn whole(&self, meaning: &Meaning, budget: u64) -> Lent {
+        let mut lent = self.start.clone();
+        let reply = self.run(&mut lent, budget);
+        let meant = (ending(meaning), meaning.count as u32);
+        assert!(
+            reply == meant && lent.is_of(meaning, &self.firsts),
+            "{}: with budget {budget} the run gives {reply:?} and\n{lent:?}\nmeant are {meant:?}, \
+             {:?}, sent {:?}\n{}",
+            self.name,
+            meaning.variables,
+            meaning.sent,
+            self.sheet.text()
+        );
+        lent
+    }
+
+    /// Goes on with a run by the steps of one instruction, in two slices.
+    fn go_on(&self, lent: &mut Lent, meaning: &Meaning, steps: u64, turn: usize) {
+        let first = turn as u64 % (steps + 1);
+        let replies = [first, steps - first].map(|budget| self.run(lent, budget));
+        let in_slices = (replies[1].0, u64::from(replies[0].1 + replies[1].1));
+        assert!(
+            in_slices == (ending(meaning), steps),
+            "{}: in slices of {steps} steps {replies:?}\n{}",
+            self.name,
+            self.sheet.text()
+        );
+    }
+}
+
+/// The number that a run gives: 0 where the program has not ended.
+fn ending(meaning: &Meaning) -> u32 {
+    meaning.ending.map_or(0, |ending| ending as u32)
+}
+
 impl Lent {
     /// Whether these are the variables, the numbers sent, the ending and the next order of a
     /// meaning.
     fn is_of(&self, meaning: &Meaning, firsts: &[u32]) -> bool {
-        let ending = meaning.ending.map_or(0, |ending| ending as u32);
         let variables = bytes(&meaning.variables);
         let mut sent = bytes(&meaning.sent);
         sent.resize(self.output.len(), UNTOUCHED);
         self.state[4..8] == next_order(meaning, firsts).to_be_bytes()
             && self.state[8..16] == (meaning.sent.len() as u64).to_be_bytes()
-            && self.state[16..HEADER] == ending.to_be_bytes()
+            && self.state[16..HEADER] == ending(meaning).to_be_bytes()
             && self.state[HEADER..HEADER + LINK] == [0; LINK]
             && self.state[HEADER + LINK..][..variables.len()] == variables
             && self.output == sent

@@ -36,7 +36,7 @@ fn every_outcome() {
     let mut outcomes = Outcomes::default();
     let mut by_making = MAKINGS.map(|_| Outcomes::default());
     let mut bytes = 0;
-    for _ in 0..100_000 {
+    for _ in 0..50_000 {
         let (making, source) = source(&mut random);
         bytes += source.len();
         let outcome = compared.check("every outcome, seed 41", &source);

@@ -77,7 +77,7 @@ fn from_large_sources() {
     let name = "large chains, seed 62";
     let mut random = Random(62);
     let mut chain = Chain::new();
-    for _ in 0..1_500 {
+    for _ in 0..1_000 {
         let sheet = Plan::large_sheet(&mut random);
         let Some(statements) = program::write(&mut random, &sheet) else {
             continue;
@@ -89,8 +89,8 @@ fn from_large_sources() {
         }
     }
     let programs = chain.runs.programs;
-    assert!(programs >= 150, "{name}: {programs} programs");
-    assert!(chain.census.with_orders(1024) >= 15, "{name}");
+    assert!(programs >= 100, "{name}: {programs} programs");
+    assert!(chain.census.with_orders(1024) >= 10, "{name}");
 }
 
 /// Sheets whether a source can have them or not.
@@ -99,7 +99,7 @@ fn from_sheets() {
     let name = "meaning, seed 24";
     let mut random = Random(24);
     let mut chain = Chain::new();
-    for round in 0..2500 {
+    for round in 0..2000 {
         let sheet = match round % 8 {
             0 => Plan::large_sheet(&mut random),
             _ => Plan::small_sheet(&mut random),
@@ -108,7 +108,7 @@ fn from_sheets() {
         let room = random.between(0, 12);
         chain.run(name, &sheet, &translation, room);
     }
-    assert_eq!(chain.runs.programs, 2500, "{name}");
+    assert_eq!(chain.runs.programs, 2000, "{name}");
     assert!(chain.runs.runs >= 50_000, "{name}: {}", chain.runs.runs);
     chain.runs.every_way(name, 5);
     chain.census.every_form(name, 50);

@@ -8,7 +8,7 @@ use skimp_reference::Reply;
 use crate::compile_call;
 
 /// Those of each seed.
-const SOURCES: usize = 150_000;
+const SOURCES: usize = 120_000;
 
 /// Holds random sources to the rules, and every outcome to having been met.
 fn hold(seed: u64) {

@@ -26,14 +26,14 @@ fn rooms_of_large_texts() {
     let mut random = Random(55);
     let mut compared = Compared::new(COMPILE, compile_call);
     let mut too_short = 0;
-    for _ in 0..400 {
+    for _ in 0..200 {
         let source = Making::Large.source(&mut random);
         too_short += compared.check_rooms("rooms, seed 55", &source, |length| {
             let around = length.saturating_sub(12)..=length + 12;
             [0, 1, length / 2].into_iter().chain(around).collect()
         });
     }
-    assert!(too_short >= 3_000, "{too_short} buffers were too short");
+    assert!(too_short >= 1_500, "{too_short} buffers were too short");
 }
 
 /// "object buffer too short, all else well": 12 comes after every other refusal.
