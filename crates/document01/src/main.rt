@@ -341,25 +341,39 @@ fn faults() {
     show_bytes(b"state", &state);
 }
 
-// Each refusal of an object with its place, by run and by read-back.
+// Each refusal of an object with its place, by run and by read-back. "Refused calls write nothing."
 fn refusals() {
-    refused(b"leading zero", b"BOX\t00\t0\t1\nSTOP\t-\t0\n");
-    refused(b"wrong kind", b"BOX\t0\t0\t2\nNEG\tK\t0\nSTOP\t-\t0\n");
-    refused(b"extra text", b"BOX\t0\t0\t1\nSTOP\t-\t0\n\n");
+    let mut state = [7u8; 28];
+    refused(b"leading zero", b"BOX\t00\t0\t1\nSTOP\t-\t0\n", &mut state);
+    refused(
+        b"wrong kind",
+        b"BOX\t0\t0\t2\nNEG\tK\t0\nSTOP\t-\t0\n",
+        &mut state,
+    );
+    refused(b"extra text", b"BOX\t0\t0\t1\nSTOP\t-\t0\n\n", &mut state);
     refused(
         b"link word",
         b"BOX\t1\t0\t3\nSTR\tD\t2\nSTR\tD\t1\nSTOP\t-\t0\n",
+        &mut state,
     );
-    refused(b"far jump", b"BOX\t0\t0\t2\nJMP\tA\t2\nSTOP\t-\t0\n");
-    refused(b"early stop", b"BOX\t0\t0\t2\nSTOP\t-\t0\nSTOP\t-\t0\n");
-    refused(b"other state", b"BOX\t1\t0\t1\nSTOP\t-\t0\n");
+    refused(
+        b"far jump",
+        b"BOX\t0\t0\t2\nJMP\tA\t2\nSTOP\t-\t0\n",
+        &mut state,
+    );
+    refused(
+        b"early stop",
+        b"BOX\t0\t0\t2\nSTOP\t-\t0\nSTOP\t-\t0\n",
+        &mut state,
+    );
+    refused(b"other state", b"BOX\t1\t0\t1\nSTOP\t-\t0\n", &mut state);
+    show_bytes(b"state", &state);
 }
 
-// Runs an object from a state for one without variables and temporaries, and reads it back.
-fn refused(what: &[u8], object: &[u8]) {
-    let mut state = [0u8; 28];
+// Runs an object from a state of no variables and temporaries, and reads it back.
+fn refused(what: &[u8], object: &[u8], state: &mut [u8]) {
     let mut output = [0u8; 4];
-    run(what, object, &mut state, &mut output, 9);
+    run(what, object, state, &mut output, 9);
     say(b"read back: ");
     read_back(object);
 }
