@@ -69,7 +69,7 @@ fn marked(
     Step::Missing
 }
 
-// "`expr rel expr %THEN`"
+// The condition of an IF up to its %THEN: two expressions with a relation between them.
 pub fn condition(
     kinds: &[u8],
     values: &[u32],

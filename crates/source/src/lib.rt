@@ -20,7 +20,7 @@ pub const MOST_LABELS: u32 = 64;
 // `tableRows` of specs/Memory.antt.
 pub const TABLE_ROWS: u32 = 192;
 
-// A statement: its cells and how many there are, without the end mark. "Cell" is document 01's word for a byte kept.
+// A statement: its cells and how many there are, without the end mark. A cell is document 01's word: "Each byte kept is a cell".
 pub struct Statement {
     pub cells: [u8; MOST_CELLS],
     pub length: usize,
