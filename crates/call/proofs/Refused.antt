@@ -1,6 +1,6 @@
 -- The reply to an object that the reader refuses.
 use Prim.Native.Nat.{ℕ}
-use mathlib.Core.Path.{_≡_, refl, sym, ap, _∙_}
+use mathlib.Core.Path.{_≡_, refl}
 use mathlib.Core.List.{[], _∷_}
 use mathlib.Core.Logic.{inl, inr}
 use native.Mathlib.Omega.{arith}
@@ -10,7 +10,7 @@ use Rattle.order.specs.Object.{Reading, object, refused}
 use Rattle.object_reader.specs.declared.Reading.{Reading as Answer}
 use Rattle.object_reader.proofs.Reading.{the-type}
 use Rattle.object_reader.specs.declared.Reading.the-variants.{Good, Header, Line, Word, Address, Stop}
-use Rattle.object_reader.specs.Answers.{good, refusal, verdict, verdictOf}
+use Rattle.object_reader.specs.Answers.{refusal, verdict, verdictOf}
 use Rattle.call.specs.Reply.{reply}
 use Rattle.call.specs.Answers.{verdictReply}
 

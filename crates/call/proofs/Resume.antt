@@ -30,13 +30,13 @@ use Rattle.call.specs.Run.{Call, call, refusedCall, isEnding, ranCall, r
 
 -- ---- the parts of a call
 
-abbrev replyIn : Call → ℕ
+abbrev pub replyIn : Call → ℕ
 replyIn (call r s o) = r
 
-abbrev stateIn : Call → List ℕ
+abbrev pub stateIn : Call → List ℕ
 stateIn (call r s o) = s
 
-abbrev outputIn : Call → List ℕ
+abbrev pub outputIn : Call → List ℕ
 outputIn (call r s o) = o
 
 abbrev withReply : ℕ → Call → Call
@@ -67,7 +67,7 @@ unfolding isEnding pick
 is-ending e (inl h) = rw (lt-ltb e 5 (omega arith)) refl
 is-ending e (inr h) = rw h refl
 
-pub fit-of : (n room : ℕ) (r : Registers) → registersFit n room r ≡ true → (r .next < n) × (r .sent ≤ room) × Ending (r .ending)
+fit-of : (n room : ℕ) (r : Registers) → registersFit n room r ≡ true → (r .next < n) × (r .sent ≤ room) × Ending (r .ending)
 unfolding registersFit
 fit-of n room r e =
     let a = both-yes (ltb (r .next) n) _ e in
@@ -77,6 +77,16 @@ fit-of n room r e =
 pub fit-again : (n room : ℕ) (r : Registers) → (r .next < n) × (r .sent ≤ room) × Ending (r .ending) → registersFit n room r ≡ true
 unfolding registersFit pick
 fit-again n room r f = rw (lt-ltb (r .next) n (f .0), le-leb (r .sent) room (f .1)) (is-ending (r .ending) (f .2))
+
+-- a state that fits has its length, and a known ending
+module _ (words n : ℕ) (state output : List ℕ) (fits : stateFits words n state output ≡ true) where
+  pub fits-length : length state ≡ 20 + 4 * words
+  unfolding stateFits
+  fits-length = eqb-true (length state) (20 + 4 * words) (both-yes (eqb (length state) (20 + 4 * words)) _ fits .0)
+
+  pub fits-registers : (registersOf state .next < n) × (registersOf state .sent ≤ length output / 4) × Ending (registersOf state .ending)
+  unfolding stateFits
+  fits-registers = fit-of n (length output / 4) (registersOf state) (both-yes (eqb (length state) (20 + 4 * words)) _ fits .1)
 
 -- ---- the first state is read from bytes
 
@@ -98,8 +108,7 @@ module _
     (fits : stateFits (v + t + 2) (length os) state output ≡ true)
   where
     fit : (registersOf state .next < length os) × (registersOf state .sent ≤ length output / 4) × Ending (registersOf state .ending)
-    unfolding stateFits
-    fit = fit-of (length os) (length output / 4) (registersOf state) (both-yes (eqb (length state) (20 + 4 * (v + t + 2))) _ fits .1)
+    fit = fits-registers (v + t + 2) (length os) state output fits
 
     -- the first run's end
     module _ (k : ℕ) (q : Registers) (vs left : List ℕ) (e : run os a (machine (registersOf state) (wordsAt (v + t + 2) 20 state) output) ≡ ran k (machine q vs left)) where

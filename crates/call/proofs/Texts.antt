@@ -1,12 +1,10 @@
 -- A text that is written into a buffer, as the writers say it and as the calls do.
 use Prim.Native.Nat.{ℕ, _<_, _≤_}
 use mathlib.Core.Path.{_≡_, refl, sym, ap, _∙_}
-use mathlib.Core.Bool.{true, false}
 use mathlib.Core.List.{List, _++_}
 use native.Mathlib.Omega.{arith}
 use native.Mathlib.Nat.{zero-add}
 use borrow.Author.Tests.{lt-ltb, le-ltb, le-leb, lt-leb}
-use lib.Dec.{ltb}
 use lib.ListN.{length, drop}
 use lib.Seq.{sets, sets-eq}
 use Rattle.base.specs.Choice.{pick}
@@ -17,7 +15,7 @@ use Rattle.call.specs.Reply.{reply, wrote, textWriting}
 abbrev pub replyNumber : Reply → ℕ
 replyNumber (replyWith number value) = reply number value
 
-front-set : (text buffer : List ℕ) → length text ≤ length buffer → sets buffer 0 text ≡ text ++ drop (length text) buffer
+pub front-set : (text buffer : List ℕ) → length text ≤ length buffer → sets buffer 0 text ≡ text ++ drop (length text) buffer
 front-set text buffer h = sets-eq text buffer 0 (omega (arith, h)) ∙ ap (λ k. text ++ drop k buffer) (zero-add (length text))
 
 module _ (short : ℕ) (text buffer : List ℕ) where

@@ -1,20 +1,19 @@
 -- What the front end has told, and the call that follows from it.
 use Prim.Native.Nat.{ℕ}
-use mathlib.Core.Path.{_≡_, refl, sym, ap, _∙_}
+use mathlib.Core.Path.{_≡_, refl, sym, ap}
 use mathlib.Core.List.{List}
 use native.Mathlib.Omega.{arith}
 use Rattle.sheet.specs.declared.Field.{Field}
-use Rattle.sheet.specs.Sheet.{Sheet, variables}
+use Rattle.sheet.specs.Sheet.{Sheet}
 use Rattle.sheet.specs.Within.{Within}
 use Rattle.sheet.specs.Fields.{sheetFields}
-use Rattle.sheet.specs.Translation.{objectText}
 use Rattle.sheet_field.specs.Memory.{fieldsFrom}
 use Rattle.source.specs.Source.{Answer, accepted, refusal, answer}
 use Rattle.source.proofs.WithinLimits.{given-within}
 use Rattle.front_end.specs.declared.Answer.{Answer as Reply}
 use Rattle.front_end.specs.declared.Answer.the-variants.{Sheet as SheetIs, Refused, Unfit}
 use Rattle.front_end.specs.Answers.{Told, fieldsOfSheet, refusedAt, unfit, told, answered}
-use Rattle.call.specs.Reply.{reply, wrote, textWriting}
+use Rattle.call.specs.Reply.{reply, wrote}
 use Rattle.call.specs.Compile.{answerCall, compileCall}
 use Rattle.call_compile.specs.Internal.{ObjectWritten}
 

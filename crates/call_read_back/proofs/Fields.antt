@@ -1,12 +1,12 @@
 -- The fields that two arrays hold from a place on.
-use Prim.Native.Nat.{ℕ, zero, suc, _+_, _-_, _%_, _≤_, _<_}
-use mathlib.Core.Path.{_≡_, refl, sym, ap, ap₂, _∙_}
+use Prim.Native.Nat.{ℕ, zero, suc, _+_, _-_, _%_, _≤_}
+use mathlib.Core.Path.{_≡_, refl, sym, ap, _∙_}
 use mathlib.Core.List.{List}
 use native.Mathlib.Omega.{arith}
 use native.Mathlib.Nat.{add-zero}
-use lib.ListN.{length, getD, take, drop, length-drop, drop-of-length-le}
+use lib.ListN.{length, take, drop, length-drop, drop-of-length-le}
 use lib.Seq.{getD-drop, take-all}
-use Rattle.sheet_field.specs.Memory.{fieldOf, fieldsFrom, mostFields}
+use Rattle.sheet_field.specs.Memory.{fieldsFrom, mostFields}
 use Rattle.sheet.specs.Sheet.{Sheet, variables, instructions}
 use Rattle.sheet.specs.Fields.{sheetFields, sheetText}
 use Rattle.sheet_text.specs.Answers.{InMemory}

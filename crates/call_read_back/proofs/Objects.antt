@@ -1,6 +1,6 @@
 -- From an object to its sheet: what the functions have told, and the call that follows from it.
 use Prim.Native.Nat.{ℕ, _-_, _≤_}
-use mathlib.Core.Path.{_≡_, refl, sym, ap, _∙_}
+use mathlib.Core.Path.{_≡_, refl, sym, ap}
 use mathlib.Core.List.{List, map}
 use native.Mathlib.Omega.{arith}
 use lib.ListN.{length}
@@ -12,19 +12,18 @@ use Rattle.order.specs.Limits.{mostVariables, mostOrders}
 use Rattle.order.specs.Order.{operand}
 use Rattle.order.specs.Memory.{number, ordersFrom}
 use Rattle.order.specs.Object.{Reading, object, refused, reading, linesOf}
-use Rattle.order.specs.Good.{Good}
 use Rattle.order.proofs.RoundTrip.{read-good, lines-read}
 use Rattle.order.proofs.Arrays.{arrays-hold}
 use Rattle.sheet.specs.declared.Field.{Field}
-use Rattle.sheet.specs.Sheet.{Instruction, Sheet, variables, instructions}
-use Rattle.sheet.specs.Fields.{sheetFields, sheetText}
+use Rattle.sheet.specs.Sheet.{Instruction, variables}
+use Rattle.sheet.specs.Fields.{sheetFields}
 use Rattle.sheet.specs.ReadBack.{Back, instructionsAt, renumbered, Given, given, none, untranslate}
 use Rattle.sheet_field.specs.Memory.{fieldsFrom, mostFields}
 use Rattle.untranslate.specs.declared.Untranslated.{Untranslated}
 use Rattle.untranslate.specs.declared.Untranslated.the-variants.{Sheet as SheetIs, Missing}
 use Rattle.untranslate.specs.Answers.{Offer, fieldsOfSheet, refusal, readOff, offered}
 use Rattle.object_reader.specs.Answers.{good, verdictOf}
-use Rattle.call.specs.Reply.{reply, wrote, textWriting}
+use Rattle.call.specs.Reply.{reply, wrote}
 use Rattle.call.specs.ReadingBack.{sheetCall, objectSheetCall, readBackCall}
 use Rattle.call.proofs.Refused.{Refused}
 use Rattle.call_read_back.specs.Internal.{SheetWritten}

@@ -4,11 +4,10 @@ use mathlib.Core.Path.{_≡_, refl, sym, ap, _∙_}
 use mathlib.Core.Bool.{true}
 use mathlib.Core.List.{List, _++_, map}
 use native.Mathlib.Omega.{arith}
-use borrow.Author.Tests.{eqb-true}
 use lib.ListN.{length, getD, take, length-map, List·getD-eq-default}
 use lib.Seq.{sets, length-take-le}
 use Rattle.base.specs.Choice.{pick}
-use Rattle.base.proofs.Cases.{by-less, pick-yes, both-yes}
+use Rattle.base.proofs.Cases.{by-less, pick-yes}
 use Rattle.base.proofs.Lists.{sets-append, sets-whole, getD-sets, getD-sets-behind}
 use Rattle.order.specs.declared.Order.{Order}
 use Rattle.order.specs.declared.Order.the-variants.{Stop}
@@ -28,6 +27,7 @@ use Rattle.skimp_state.proofs.Bytes.{length-words, length-registers, length-sta
 use Rattle.call.specs.Reply.{reply}
 use Rattle.call.specs.Run.{call, refusedCall, ranCall, stateFits, objectCall, runCall}
 use Rattle.call.proofs.Refused.{Refused}
+use Rattle.call.proofs.Resume.{fits-length}
 
 -- ---- the bytes of the last state
 
@@ -60,10 +60,6 @@ left-call os budget n r ws out k s vs left st words registers e size =
     ∙ ap (λ l. ranCall (run os budget (machine (registersOf st) l out))) words
 
 -- ---- the state that fits
-
-fits-length : (words n : ℕ) (state output : List ℕ) → stateFits words n state output ≡ true → length state ≡ 20 + 4 * words
-unfolding stateFits
-fits-length words n state output e = eqb-true (length state) (20 + 4 * words) (both-yes _ _ e .0)
 
 -- a part of the frame has the words of a state that fits
 pub part-fits :

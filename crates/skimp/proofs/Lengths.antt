@@ -1,7 +1,6 @@
 -- How long the texts of a sheet within the limits are at most.
 use Prim.Native.Nat.{ℕ, zero, suc, _+_, _*_, _/_, _%_, _≤_}
-use Prim.Native.String.{String}
-use mathlib.Core.Path.{_≡_, refl, sym, ap, _∙_}
+use mathlib.Core.Path.{_≡_}
 use mathlib.Core.List.{List, [], _∷_, _++_}
 use native.Mathlib.Omega.{arith}
 use lib.Dec.{ltb}
@@ -21,10 +20,10 @@ use Rattle.sheet.specs.declared.Operator.{Operator}
 use Rattle.sheet.specs.declared.Operator.the-variants.{Plus, Minus, Times, Over, Power, Left, Right, And as Both, Or as Any, Unlike}
 use Rattle.sheet.specs.declared.Field.{Field}
 use Rattle.sheet.specs.declared.Field.the-variants.{Else, Then, Send as FieldSend, Neg as FieldNeg, Not as FieldNot, Binary, If, Word as FieldWord, Constant, Set, Goto}
-use Rattle.sheet.specs.Sheet.{Simple, set, send, goto, Instruction, simple, when, either, Sheet, sheet, variables}
+use Rattle.sheet.specs.Sheet.{set, send, goto, Instruction, simple, when, either, Sheet, sheet, variables}
 use Rattle.sheet.specs.Within.{Within}
-use Rattle.sheet.specs.Fields.{simpleFields, instructionFields, fieldsOfAll, operatorText, relationText, fieldText, lineRest, line, lines, sheetText}
-use Rattle.sheet.specs.Translation.{ordersOfAll, translation, sheetTemporaries, objectText}
+use Rattle.sheet.specs.Fields.{instructionFields, fieldsOfAll, operatorText, relationText, fieldText, lineRest, line, lines, sheetText}
+use Rattle.sheet.specs.Translation.{translation, sheetTemporaries, objectText}
 use Rattle.translate_size.proofs.Lengths.{translation-length, fields-twice}
 
 -- ---- numbers

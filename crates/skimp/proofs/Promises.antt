@@ -1,32 +1,27 @@
 -- The promises of specs/Promises.antt, each proved.
-use Prim.Native.Nat.{ℕ, _+_, _*_, _/_, _%_, _≤_, _<_}
+use Prim.Native.Nat.{ℕ, _+_, _/_, _≤_, _<_}
 use mathlib.Core.Path.{_≡_, refl, sym, ap, _∙_}
-use mathlib.Core.Bool.{true, false}
 use mathlib.Core.List.{List, [], _∷_, _++_}
 use mathlib.Core.Logic.{inl, inr}
 use native.Mathlib.Omega.{arith}
-use borrow.Author.Tests.{eqb-true}
-use lib.Dec.{eqb}
 use lib.ListN.{length, take, drop}
-use lib.Seq.{sets}
-use Rattle.base.specs.Choice.{pick}
-use Rattle.base.proofs.Cases.{by-test, by-equal, both-yes}
+use Rattle.base.proofs.Cases.{by-test, by-equal}
 use Rattle.order.specs.declared.Order.{Order}
 use Rattle.order.specs.Object.{Reading, object, refused, reading}
 use Rattle.order.proofs.RoundTrip.{read-text, text-read, read-good}
 use Rattle.order.proofs.Refusals.{refused-bounded}
 use Rattle.machine.specs.declared.Registers.{Registers}
-use Rattle.machine.specs.Machine.{Machine, machine, failed, Run, ran, endWith, run, nextEffect}
-use Rattle.machine.specs.Frame.{Bytes, Ending}
+use Rattle.machine.specs.Machine.{Machine, machine, Run, ran, run}
+use Rattle.machine.specs.Frame.{Ending}
 use Rattle.machine.proofs.Steps.{ended-stays, fault-is-met}
 use Rattle.machine.proofs.Resume.{within-budget}
 use Rattle.machine.proofs.Frame.{ending-known}
-use Rattle.sheet.specs.Sheet.{Sheet, variables}
+use Rattle.sheet.specs.Sheet.{Sheet}
 use Rattle.sheet.specs.Within.{Within}
 use Rattle.sheet.specs.Fields.{sheetText}
 use Rattle.sheet.specs.Translation.{translation, objectText}
 use Rattle.sheet.specs.Meaning.{after}
-use Rattle.sheet.specs.Following.{startRun, stepsOf, endingOf, MeaningEnds, MeaningGoesOn}
+use Rattle.sheet.specs.Following.{startRun, stepsOf, endingOf}
 use Rattle.sheet.specs.ReadBack.{Given, given, none, untranslate, readBack}
 use Rattle.sheet.proofs.Objects.{object-read, object-back, back-object, objects-tell}
 use Rattle.sheet.proofs.Following.{following}
@@ -38,22 +33,22 @@ use Rattle.sheet.proofs.Worked.{workedSheet as sheetWorked, worked-text, worked
 use Rattle.source.proofs.WithinLimits.{given-within}
 use Rattle.source.proofs.Examples.{all-answered}
 use Rattle.source.proofs.Places.{refusal-bounded}
-use Rattle.skimp_state.specs.State.{numberBytes, registersOf, wordsAt, stateBytes}
-use Rattle.call.specs.Reply.{reply, numberIn, valueIn, Writing, wrote, textWriting}
+use Rattle.skimp_state.specs.State.{registersOf, wordsAt}
+use Rattle.call.specs.Reply.{reply, numberIn, valueIn, wrote, textWriting}
 use Rattle.call.specs.Compile.{answerCall, compileCall}
 use Rattle.call.specs.ReadingBack.{sheetCall, objectSheetCall, readBackCall}
-use Rattle.call.specs.Run.{Call, call, refusedCall, ranCall, stateFits, objectCall, readCall, runCall}
+use Rattle.call.specs.Run.{call, ranCall, stateFits, readCall, runCall}
 use Rattle.call.proofs.Texts.{text-fits, text-short}
 use Rattle.call.proofs.Worked.{worked-call}
-use Rattle.call.proofs.Resume.{fit-of, fitting, unfit, calls-resume}
+use Rattle.call.proofs.Resume.{replyIn, stateIn, outputIn, fits-length, fits-registers, fitting, unfit, calls-resume}
 use Rattle.skimp.specs.Promises.{RepliesTell, CompileRefuses, CompileTooShort, CompileNumbers, TemporariesAreUsed, ReadBackRefuses, RunRefuses, RunRefusesState, CompileKeeps, ReadBackKeeps, RunKeeps}
 use Rattle.skimp.specs.Promises.{RunNumber, outOfBudget, faulted, stopped, refuses, RunNumbers, Accepted, CompileAccepts, CompileRefusesNoOther, startCall, RunFollows, RunEnds, RunGoesOn, RunHasEnd}
 use Rattle.skimp.specs.Promises.{ObjectsFit, SheetsFit, WorkedCompiles, WorkedIsReadBack, WorkedRuns, EndedStays, FaultIsMet, TwoCallsAreOne, WrittenIsRead, ReadIsWritten, SheetGiven, ReadBackAccepts, ReadBackRefusesNoOther, NoSheet, ReadBackFindsNone, ReadBackTooShort}
 use Rattle.skimp.specs.Promises.{ReadBackNumber, accepts, refusesObject, findsNone, tooShort, ReadBackTells, ObjectsTell, CompiledIsReadBack, SourcesTell, CompiledBytesTell}
-use Rattle.skimp.specs.Worked.{workedSource, workedObject, workedSheet}
+use Rattle.skimp.specs.Worked.{workedSource, workedObject}
 use Rattle.skimp.proofs.Lengths.{object-few, sheet-few}
 use Rattle.skimp.proofs.States.{state-again, ending-again}
-use Rattle.skimp.proofs.Written.{replyOf, leftBy, refused-number, refused-value, Whole, Short, Told, whole, tooShort as shortOf, text-told, front-of}
+use Rattle.skimp.proofs.Written.{replyOf, leftBy, refused-number, refused-value, Told, whole, tooShort as shortOf, text-told, front-of}
 use Rattle.skimp.proofs.Starts.{start-is, runs-to}
 
 -- ---- replies
@@ -140,19 +135,6 @@ pub run-refuses-state : RunRefusesState
 run-refuses-state object-text state output budget v t os e not-so =
     read-as object-text state output budget (object v t os) e ∙ unfit (v + t + 2) (length os) os state output budget not-so
 
-abbrev replyIn : Call → ℕ
-replyIn (call r s o) = r
-
-abbrev stateIn : Call → List ℕ
-stateIn (call r s o) = s
-
-abbrev outputIn : Call → List ℕ
-outputIn (call r s o) = o
-
-start-ending : (state output : List ℕ) (v t : ℕ) (os : List Order) → stateFits (v + t + 2) (length os) state output ≡ true → Ending (registersOf state .ending)
-unfolding stateFits
-start-ending state output v t os taken = fit-of (length os) (length output / 4) (registersOf state) (both-yes (eqb (length state) (20 + 4 * (v + t + 2))) _ taken .1) .2
-
 -- what a call of run came to: a refusal that keeps every byte, or a run
 pub data Ran (state output : List ℕ) (budget r : ℕ) (s o : List ℕ) : Type 0 where
   refusedRun : 21 ≤ numberIn r → numberIn r ≤ 26 → s ≡ state → o ≡ output → Ran state output budget r s o
@@ -183,7 +165,7 @@ module _ (object-text state output : List ℕ) (budget r : ℕ) (s o : List ℕ)
   ran-by (object v t os) e c =
       by-test (stateFits (v + t + 2) (length os) state output)
       (λ taken. run-ran os (machine (registersOf state) (wordsAt (v + t + 2) 20 state) output) _ refl
-      (λ k q vs left f. ending-known os budget (registersOf state) (wordsAt (v + t + 2) 20 state) output k q vs left f (start-ending state output v t os taken))
+      (λ k q vs left f. ending-known os budget (registersOf state) (wordsAt (v + t + 2) 20 state) output k q vs left f (fits-registers (v + t + 2) (length os) state output taken .2))
       (sym (fitting (v + t + 2) (length os) os state output budget taken) ∙ c))
       (λ not-so. refused-ran 26 0 (omega arith) (omega arith) (omega arith) (sym (unfit (v + t + 2) (length os) os state output budget not-so) ∙ c))
 
@@ -250,23 +232,19 @@ run-has-end source s e output budget small r state left c not-so =
 
 -- ---- runs
 
-fits-size : (state output : List ℕ) (words n : ℕ) → stateFits words n state output ≡ true → length state ≡ 20 + 4 * words
-unfolding stateFits
-fits-size state output words n taken = eqb-true (length state) (20 + 4 * words) (both-yes (eqb (length state) (20 + 4 * words)) _ taken .0)
-
 pub ended-state-stays : EndedStays
 ended-state-stays object-text state output budget v t os small e taken over =
     read-as object-text state output budget (object v t os) e
     ∙ fitting (v + t + 2) (length os) os state output budget taken
     ∙ ap ranCall (ended-stays os (machine (registersOf state) (wordsAt (v + t + 2) 20 state) output) budget over)
-    ∙ ap (λ l. call (reply (registersOf state .ending) 0) l output) (state-again state small (v + t + 2) (fits-size state output (v + t + 2) (length os) taken))
+    ∙ ap (λ l. call (reply (registersOf state .ending) 0) l output) (state-again state small (v + t + 2) (fits-length (v + t + 2) (length os) state output taken))
 
 pub fault-is-met-by-calls : FaultIsMet
 fault-is-met-by-calls object-text state output budget v t n os small e taken yet fails =
     read-as object-text state output budget (object v t os) e
     ∙ fitting (v + t + 2) (length os) os state output budget taken
     ∙ ap ranCall (fault-is-met os (machine (registersOf state) (wordsAt (v + t + 2) 20 state) output) budget n yet fails)
-    ∙ ap (λ l. call (reply n 0) l output) (ending-again state small (v + t + 2) (fits-size state output (v + t + 2) (length os) taken) n)
+    ∙ ap (λ l. call (reply n 0) l output) (ending-again state small (v + t + 2) (fits-length (v + t + 2) (length os) state output taken) n)
 
 pub two-calls-are-one : TwoCallsAreOne
 two-calls-are-one object-text state output a b small room fits r₁ s₁ o₁ r₂ s₂ o₂ e f = calls-resume object-text state output a b small room fits r₁ s₁ o₁ r₂ s₂ o₂ e f

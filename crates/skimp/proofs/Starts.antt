@@ -5,27 +5,24 @@ use mathlib.Core.Bool.{true}
 use mathlib.Core.List.{List, [], _∷_, _++_}
 use mathlib.Core.Logic.{inl}
 use native.Mathlib.Omega.{arith}
-use native.Mathlib.Nat.{zero-add}
 use borrow.Author.Tests.{eq-eqb}
-use lib.ListN.{length, take, drop, replicate, length-replicate, length-append}
-use lib.Seq.{sets, sets-eq}
+use lib.ListN.{length, take, drop, length-replicate}
+use lib.Seq.{sets}
 use Rattle.base.specs.Choice.{pick}
-use Rattle.machine.specs.declared.Registers.{Registers}
 use Rattle.machine.specs.Machine.{machine, ran, run}
-use Rattle.machine.proofs.Resume.{within-budget}
-use Rattle.sheet.specs.Sheet.{Sheet, variables, instructions}
+use Rattle.sheet.specs.Sheet.{Sheet, variables}
 use Rattle.sheet.specs.Within.{Within}
-use Rattle.sheet.specs.Translation.{translation, sheetTemporaries, objectText}
-use Rattle.sheet.specs.Meaning.{Progress, after}
+use Rattle.sheet.specs.Translation.{translation, sheetTemporaries}
+use Rattle.sheet.specs.Meaning.{Progress}
 use Rattle.sheet.specs.Following.{sentBytes, startRun, Follows}
 use Rattle.sheet.proofs.GoodObject.{translation-good}
 use Rattle.sheet.proofs.Objects.{object-read}
-use Rattle.sheet.proofs.Following.{following}
 use Rattle.skimp_state.specs.State.{registersOf, wordsAt, stateBytes}
 use Rattle.skimp_state.proofs.Bytes.{length-state}
 use Rattle.skimp_state.proofs.Stored.{Held, registers-again}
 use Rattle.call.specs.Reply.{reply}
 use Rattle.call.specs.Run.{call, ranCall, stateFits, runCall}
+use Rattle.call.proofs.Texts.{front-set}
 use Rattle.call.proofs.Resume.{fit-again, fitting, lengths, fit-left, held, words-kept}
 use Rattle.call.proofs.Worked.{start-registers, start-words}
 use Rattle.skimp.specs.Promises.{startState, startCall, RunsTo}
@@ -91,8 +88,7 @@ module _ (s : Sheet) (w : Within s) (output : List ℕ) where
     -- the numbers sent stand in front, and the bytes behind stay
     left-parted : left ≡ sentBytes (p .store .sent) ++ drop (length (sentBytes (p .store .sent))) output
     left-parted =
-        sets-eq (sentBytes (p .store .sent)) output 0 (omega (arith, sent-length (p .store .sent), within-room, left-length, f .sent-too))
-        ∙ ap (λ k. sentBytes (p .store .sent) ++ drop k output) (zero-add (length (sentBytes (p .store .sent))))
+        front-set (sentBytes (p .store .sent)) output (omega (arith, sent-length (p .store .sent), within-room, left-length, f .sent-too))
 
     again : registersOf (stateBytes (f .registers) (f .frame)) ≡ f .registers
     again = registers-again (f .registers) (f .frame) registers-held

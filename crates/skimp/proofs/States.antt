@@ -1,13 +1,12 @@
 -- The bytes of a state and the numbers in them.
-use Prim.Native.Nat.{ℕ, zero, suc, _+_, _*_, _/_, _%_, _≤_, _<_}
-use mathlib.Core.Path.{_≡_, refl, sym, ap, ap₂, _∙_}
+use Prim.Native.Nat.{ℕ, zero, suc, _+_, _*_, _/_, _%_, _≤_}
+use mathlib.Core.Path.{_≡_, refl, sym, ap, _∙_}
 use mathlib.Core.List.{List, [], _∷_, _++_, append-assoc, append-nil}
 use native.Mathlib.Omega.{arith}
 use native.Mathlib.Nat.{add-zero}
 use lib.ListN.{length, getD, take, drop, replicate, length-append, drop-of-length-le}
 use lib.Seq.{sets, sets-eq, take-at}
 use Rattle.base.proofs.Lists.{drop-more}
-use Rattle.machine.specs.declared.Registers.{Registers}
 use Rattle.machine.specs.Machine.{endWith}
 use Rattle.machine.specs.Frame.{Bytes}
 use Rattle.skimp_state.specs.State.{numberAt, numberBytes, registersOf, wordsAt, registerBytes, wordsBytes, stateBytes}

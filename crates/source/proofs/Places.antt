@@ -1,8 +1,7 @@
 -- The refusals of a source: their numbers are 1 to 11, and their places are offsets or statements, no more than the bytes of
 -- a source and one.
 use Prim.Native.Nat.{ℕ, zero, suc, _+_, _≤_}
-use mathlib.Core.Bool.{Bool}
-use mathlib.Core.Path.{_≡_, refl, subst}
+use mathlib.Core.Path.{_≡_, subst}
 use mathlib.Core.List.{List, [], _∷_, _++_, map}
 use native.Mathlib.Omega.{arith}
 use borrow.Author.Tests.{ltb-false}
@@ -12,7 +11,7 @@ use Rattle.base.specs.Front.{found, missing, onFront}
 use Rattle.base.proofs.Cases.{either-part}
 use Rattle.text.specs.Pieces.{Front}
 use Rattle.sheet.specs.Sheet.{Instruction}
-use Rattle.sheet.proofs.Each.{Each, each-append, each-map}
+use Rattle.sheet.proofs.Each.{Each, each-append}
 use Rattle.source.specs.declared.Mode.{Mode}
 use Rattle.source.specs.declared.Mode.the-variants.{Plain, Keyword, Quoted, Comment}
 use Rattle.source.specs.declared.Token.{Token}

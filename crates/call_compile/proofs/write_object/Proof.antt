@@ -1,5 +1,4 @@
 use mathlib.Core.Path.{refl, sym, ap, _∙_}
-use native.Mathlib.Omega.{arith}
 use Rattle.translate.specs.Answers.{translated}
 use Rattle.call_compile.proofs.Written.{whole-written, never-over}
 use borrow.Author.Needs.{needs}

@@ -1,6 +1,5 @@
-use mathlib.Core.Path.{refl, sym, ap, _∙_}
+use mathlib.Core.Path.{sym}
 use native.Mathlib.Nat.{zero-add}
-use Rattle.object_writer.specs.Answers.{written}
 use Rattle.call.proofs.Texts.{told-written}
 use borrow.Author.Needs.{needs}
 use Rattle.call_compile.proofs.write_orders.Statement.{statement}

@@ -1,4 +1,4 @@
-use mathlib.Core.Path.{sym, ap, _∙_, refl}
+use mathlib.Core.Path.{sym, ap, _∙_}
 use native.Mathlib.Omega.{arith}
 use Rattle.object_reader.specs.Answers.{verdict}
 use Rattle.call.proofs.Refused.{told-refused}

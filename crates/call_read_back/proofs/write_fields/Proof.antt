@@ -1,4 +1,4 @@
-use mathlib.Core.Path.{sym, ap, _∙_}
+use mathlib.Core.Path.{sym}
 use native.Mathlib.Nat.{zero-add}
 use Rattle.call.proofs.Texts.{told-written}
 use Rattle.call_read_back.proofs.Fields.{in-rest, sheet-written}
