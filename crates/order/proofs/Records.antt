@@ -33,17 +33,13 @@ unfolding table
 same-in-table v = refl
 
 -- what is read behind the heading of a shape
-orderAt : (ℕ → Order) → List ℕ → Front Order
+abbrev pub orderAt : (ℕ → Order) → List ℕ → Front Order
 orderAt s l = onFront (numeral 10 l) (λ v l₁. pick (eqb (operand (s v)) v) (found (s v) l₁) missing) missing
 
 -- no other heading fits where a heading stands, whatever text is behind it: in the table, and in the order of the numbers
 headings-told : (l : List ℕ) → map (λ s. recordAmong table (heading (s 0) ++ l)) shapes ≡ map (λ s. orderAt s l) shapes
 unfolding shapes table bytes recordAmong fixed pick onFront orderAt
 headings-told l = refl
-
-numbered-told : (l : List ℕ) → map (λ s. recordAmong shapes (heading (s 0) ++ l)) shapes ≡ map (λ s. orderAt s l) shapes
-unfolding shapes bytes recordAmong fixed pick onFront orderAt
-numbered-told l = refl
 
 -- both at each number
 pub heading-at : (k v : ℕ) → heading (orderOf k v) ≡ heading (orderOf k 0)
@@ -98,15 +94,14 @@ pub again-record : (o : Order) (l rest : List ℕ) → recordAt l ≡ found o re
 unfolding recordAt
 again-record = among table same-in-table
 
--- the table read in the order of the numbers gives the same
-by-numbers : (l : List ℕ) (x y : Front Order) → recordAmong shapes l ≡ x → recordAt l ≡ y → x ≡ y
-by-numbers l missing missing e f = refl
-by-numbers l (found o rest) y e f =
-    let read = among shapes same-headings o l rest e in
-    sym (record-again o rest (read .1)) ∙ ap recordAt (sym (read .0)) ∙ f
-by-numbers l missing (found o rest) e f =
-    let read = again-record o l rest f in
-    sym e ∙ ap (recordAmong shapes) (read .0) ∙ among-again shapes numbered-told o rest (read .1)
+-- what is read where a heading stands
+pub heading-read : (k : ℕ) (l : List ℕ) → recordAt (heading (orderOf k 0) ++ l) ≡ orderAt (orderOf k) l
+unfolding recordAt
+heading-read = record-at table headings-told
 
-pub numbers-read : (l : List ℕ) → recordAmong shapes l ≡ recordAt l
-numbers-read l = by-numbers l (recordAmong shapes l) (recordAt l) refl refl
+-- a text at whose front a record is read has the heading of its order there
+pub read-heading : (o : Order) (l rest : List ℕ) → recordAt l ≡ found o rest → l ≡ heading (orderOf (number o) 0) ++ (decimal (operand o) ++ 10 ∷ rest)
+read-heading o l rest e =
+    again-record o l rest e .0
+    ∙ parts o rest
+    ∙ ap (λ h. h ++ (decimal (operand o) ++ 10 ∷ rest)) (ap heading (sym (order-again o)) ∙ heading-at (number o) (operand o))

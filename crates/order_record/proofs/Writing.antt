@@ -1,7 +1,7 @@
 -- The names and kinds of the orders, as the table has them, and the records that are written with them.
-use Prim.Native.Nat.{ℕ, _+_, _*_, _<_, _≤_}
+use Prim.Native.Nat.{ℕ, _+_, _*_, _%_, _<_, _≤_}
 use mathlib.Core.Path.{_≡_, refl, sym}
-use mathlib.Core.Bool.{true}
+use mathlib.Core.Bool.{Bool, true}
 use mathlib.Core.List.{List, map}
 use native.Mathlib.Omega.{arith}
 use borrow.Author.Tests.{ltb-true, lt-ltb}
@@ -10,7 +10,7 @@ use lib.ListN.{length, getD, take, drop, length-append}
 use Rattle.base.specs.Choice.{pick}
 use Rattle.base.specs.Text.{bytes}
 use Rattle.base.specs.Places.{each}
-use Rattle.base.proofs.Lists.{getD-map-inside, map-at}
+use Rattle.base.proofs.Lists.{map-at}
 use Rattle.base.proofs.Places.{each-at}
 use Rattle.text.specs.Pieces.{decimal, Front, fixed}
 use Rattle.text.specs.Internal.{Placed, putByte, putAll}
@@ -24,20 +24,31 @@ use Rattle.order_record.specs.Internal.{headingAt}
 
 -- ---- headings
 
--- the length of each, and that none is over 7, as computed over the table
-pub heading-length : (k : ℕ) → k < 36 → getD (map (λ s. length (heading (s 0))) shapes) k 0 ≡ length (heading (orderOf k 0))
-unfolding orderOf
-heading-length k h = getD-map-inside (λ s. length (heading (s 0))) shapes k 0 (λ v. Stop) (unfold shapes in h)
+-- the length of each, by its digit; and that it is 2 to 7
+abbrev digits : List ℕ
+digits = bytes "776665666666766666666566766666666566"
 
-short-headings : map (λ s. ltb (length (heading (s 0))) 8) shapes ≡ map (λ s. true) shapes
-unfolding shapes bytes
-short-headings = refl
+all-lengths : each (λ k. getD digits k 0 % 16) 0 36 ≡ each (λ k. length (heading (orderOf k 0))) 0 36
+unfolding each bytes orderOf shapes
+all-lengths = refl
 
-pub heading-short : (k : ℕ) → length (heading (orderOf k 0)) ≤ 7
-unfolding orderOf bytes
-heading-short k =
-    let short = map-at (λ s. ltb (length (heading (s 0))) 8) (λ s. true) shapes (λ v. Stop) short-headings refl k in
-    omega (arith, ltb-true (length (heading (orderOf k 0))) 8 short)
+pub heading-length : (k : ℕ) → k < 36 → getD digits k 0 % 16 ≡ length (heading (orderOf k 0))
+heading-length = each-at (λ k. getD digits k 0 % 16) (λ k. length (heading (orderOf k 0))) 36 all-lengths
+
+module _ (k : ℕ) where
+  -- a test of its length, as computed over all of them
+  each-passes : (test : ℕ → Bool) → map (λ s. test (length (heading (s 0)))) shapes ≡ map (λ s. true) shapes → test 7 ≡ true
+      → test (length (heading (orderOf k 0))) ≡ true
+  unfolding orderOf bytes
+  each-passes test all stop = map-at (λ s. test (length (heading (s 0)))) (λ s. true) shapes (λ v. Stop) all stop k
+
+  pub heading-short : length (heading (orderOf k 0)) ≤ 7
+  unfolding shapes bytes
+  heading-short = omega (arith, ltb-true (length (heading (orderOf k 0))) 8 (each-passes (λ n. ltb n 8) refl refl))
+
+  pub heading-long : 2 ≤ length (heading (orderOf k 0))
+  unfolding shapes bytes
+  heading-long = omega (arith, ltb-true 1 (length (heading (orderOf k 0))) (each-passes (λ n. ltb 1 n) refl refl))
 
 -- each stands in its row of seven bytes, as computed over a table of such rows
 abbrev pub InRows : List ℕ → Type 0

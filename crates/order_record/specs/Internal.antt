@@ -1,8 +1,9 @@
 -- What the answers of the functions stand for. A reader of the promises needs none of it.
-use Prim.Native.Nat.{ℕ}
-use mathlib.Core.List.{List}
+use Prim.Native.Nat.{ℕ, _<_}
+use mathlib.Core.Path.{_≡_}
+use mathlib.Core.List.{List, _++_}
 use lib.Dec.{ltb, eqb}
-use lib.ListN.{drop}
+use lib.ListN.{take, drop}
 use Rattle.base.specs.Choice.{pick}
 use Rattle.base.specs.Front.{found, missing, onFront}
 use Rattle.text.specs.Pieces.{Front, fixed, numeral}
@@ -24,3 +25,7 @@ headingAt k l = pick (ltb k 36) (fixed (heading (orderOf k 0)) l) missing
 -- the number of a record behind the heading of the order with the number k
 abbrev pub numberAfter : ℕ → List ℕ → Front Order
 numberAfter k l = onFront (numeral 10 l) (λ v l₁. pick (eqb (operand (orderOf k v)) v) (found (orderOf k v) l₁) missing) missing
+
+-- the order with the number k is the only one that may stand at the front of a text, of which the first seven bytes are given
+abbrev pub Likely : List ℕ → ℕ → Type 0
+Likely front k = (j : ℕ) (l : List ℕ) → j < 36 → front ≡ take 7 (heading (orderOf j 0) ++ l) → k ≡ j

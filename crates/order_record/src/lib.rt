@@ -17,7 +17,7 @@ ghost use lib.ListN.{length, drop};
 ghost use Rattle.text.specs.Internal.{behind, placed, putAll};
 ghost use Rattle.order.specs.Memory.{orderOf};
 ghost use Rattle.order.specs.Object.{heading, recordText, recordAt};
-ghost use Rattle.order_record.specs.Internal.{orderFound, headingAt, numberAfter};
+ghost use Rattle.order_record.specs.Internal.{orderFound, headingAt, numberAfter, Likely};
 
 // An order and the place behind its record, or that no record stands there.
 pub enum Record {
@@ -34,45 +34,12 @@ const HEADINGS: [u8; 252] = *b"STOP\t-\tSEND\t-\tNEG\t-\t NOT\t-\t JMP\tA\t BE\t
     LOAD\tK\tADD\tK\t SUB\tK\t MLT\tK\t DIV\tK\t EXP\tK\t \
     SHL\tK\t SHR\tK\t AND\tK\t OR\tK\t  XOR\tK\t CMP\tK\t ";
 
-// Their lengths.
-const HEADING_LENGTHS: [usize; 36] = [
-    7,
-    7,
-    6,
-    6,
-    6,
-    5,
-    6,
-    6,
-    6,
-    6,
-    6,
-    6,
-    7,
-    6,
-    6,
-    6,
-    6,
-    6,
-    6,
-    6,
-    6,
-    5,
-    6,
-    6,
-    7,
-    6,
-    6,
-    6,
-    6,
-    6,
-    6,
-    6,
-    6,
-    5,
-    6,
-    6,
-];
+// Their lengths, as digits.
+const HEADING_LENGTHS: [u8; 36] = *b"776665666666766666666566766666666566";
+
+// The number of an order by a sum of its first three letters, as the letter with that number, @ for 0. Orders with a word stand
+// for those with a number too.
+const LIKELY: [u8; 64] = *b"@@Q@@EP@GFR@@@@@SJ@@@@W@C@@@D@@@I@@@@@@@N@@@@@MUKL@@A@O@@HVB@@T@";
 
 // The length of a heading, that of STOP where no order has the number.
 fn heading_length(k: u8) -> usize
@@ -80,7 +47,7 @@ fn heading_length(k: u8) -> usize
     ensures few { λ r. ⌜ r ≤ 7 ⌝ }
 {
     if k < 36 {
-        return HEADING_LENGTHS[k as usize];
+        return (HEADING_LENGTHS[k as usize] % 16) as usize;
     }
     7
 }
@@ -126,22 +93,29 @@ fn number_after(s: &[u8], at: usize, k: u8) -> Record
     }
 }
 
+// The number of the one order whose name and kind may stand at the front of a text. Free is what it is where none does.
+fn likely(s: &[u8]) -> u8
+    ensures { λ r. ⌜ Likely (now (s .entry)) r ⌝ }
+{
+    let a = base::byte_at(s, 0) as usize;
+    let b = base::byte_at(s, 1) as usize;
+    let c = base::byte_at(s, 2) as usize;
+    let k = LIKELY[(10 * a + 8 * b + c) % 64] % 32;
+    if base::byte_at(s, heading_length(k) - 2) == 75 {
+        return k + 12;
+    }
+    k
+}
+
 // The record at a place: the order whose name and kind stand there, with its number.
 pub fn record_at(s: &[u8], at: usize) -> Record
     ensures { λ r. ⌜ orderFound (now (s .entry)) r ≡ recordAt (drop at (now (s .entry))) ⌝ }
 {
-    let mut k: u8 = 0;
-    while k < 36 {
-        match heading_at(s, at, k) {
-            Place::Behind(i) => {
-                return number_after(s, i, k);
-            }
-            Place::Missing => {
-                k += 1;
-            }
-        }
+    let k = likely(part(s, at, 7));
+    match heading_at(s, at, k) {
+        Place::Behind(i) => number_after(s, i, k),
+        Place::Missing => Record::Missing,
     }
-    Record::Missing
 }
 
 // The record of the order with the number k and the operand v.

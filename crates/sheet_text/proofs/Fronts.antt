@@ -1,5 +1,5 @@
 -- The text of a field: what a row of the table has, and behind it the number that the field carries, if it carries one.
-use Prim.Native.Nat.{ℕ, _+_, _-_, _*_, _<_, _≤_}
+use Prim.Native.Nat.{ℕ, _+_, _*_, _%_, _<_, _≤_}
 use mathlib.Core.Path.{_≡_, refl, sym, ap, _∙_}
 use mathlib.Core.Bool.{true}
 use mathlib.Core.List.{List, [], _++_, append-nil}
@@ -19,29 +19,29 @@ use Rattle.sheet.specs.Fields.{fieldText}
 use Rattle.sheet_field.specs.Memory.{kind, carried, shapes, fieldOf}
 use Rattle.sheet_field.proofs.Stored.{field-again, kind-below}
 
--- the lengths of what stands before the number: the texts with the number 0 have one digit more
-abbrev pub frontLengths : List ℕ
-frontLengths = each (λ k. length (fieldText (fieldOf k 0)) - pick (ltb k 21) 0 1) 0 25
+-- the length of what stands before the number, by its digit
+abbrev pub frontLength : ℕ → ℕ
+frontLength k = getD (bytes "4443311112221124445451145") k 0 % 16
 
 -- the rule of the table, as computed over it, v being the number that is carried
 abbrev pub Rows : List ℕ → ℕ → Type 0
 Rows table v =
-    each (λ k. take (getD frontLengths k 0) (drop (5 * k) table) ++ pick (ltb k 21) [] (decimal v)) 0 25
+    each (λ k. take (frontLength k) (drop (5 * k) table) ++ pick (ltb k 21) [] (decimal v)) 0 25
     ≡ each (λ k. fieldText (fieldOf k v)) 0 25
 
 -- the fields' texts themselves, cut before the number, are such a table
 abbrev front : ℕ → List ℕ
-front k = take (getD frontLengths k 0) (fieldText (fieldOf k 0))
+front k = take (frontLength k) (fieldText (fieldOf k 0))
 
 texts-told : (v : ℕ) → each (λ k. front k ++ pick (ltb k 21) [] (decimal v)) 0 25 ≡ each (λ k. fieldText (fieldOf k v)) 0 25
 unfolding each fieldOf shapes bytes digitsOf pick
 texts-told v = refl
 
-lengths-told : each (λ k. length (front k)) 0 25 ≡ each (λ k. getD frontLengths k 0) 0 25
+lengths-told : each (λ k. length (front k)) 0 25 ≡ each (λ k. frontLength k) 0 25
 unfolding each fieldOf shapes bytes digitsOf pick
 lengths-told = refl
 
-short-lengths : each (λ k. ltb (getD frontLengths k 0) 6) 0 25 ≡ each (λ k. true) 0 25
+short-lengths : each (λ k. ltb (frontLength k) 6) 0 25 ≡ each (λ k. true) 0 25
 unfolding each fieldOf shapes bytes digitsOf pick
 short-lengths = refl
 
@@ -52,12 +52,12 @@ module _ (f : Field) (k : ℕ) (e : k ≡ kind f) where
   again : fieldOf k (carried f) ≡ f
   again = rw e (field-again f)
 
-  module _ (table : List ℕ) (all : Rows table (carried f)) (row : List ℕ) (is-row : row ≡ take (getD frontLengths k 0) (drop (5 * k) table)) where
+  module _ (table : List ℕ) (all : Rows table (carried f)) (row : List ℕ) (is-row : row ≡ take (frontLength k) (drop (5 * k) table)) where
     whole : row ++ pick (ltb k 21) [] (decimal (carried f)) ≡ fieldText f
     whole =
         rw is-row
         (each-at
-        (λ j. take (getD frontLengths j 0) (drop (5 * j) table) ++ pick (ltb j 21) [] (decimal (carried f)))
+        (λ j. take (frontLength j) (drop (5 * j) table) ++ pick (ltb j 21) [] (decimal (carried f)))
         (λ j. fieldText (fieldOf j (carried f)))
         25
         all
@@ -74,26 +74,26 @@ module _ (f : Field) (k : ℕ) (e : k ≡ kind f) where
     put-numbered p q r n h is-number g i =
         rw (i, g, is-number) (sym (putAll-append row (decimal (carried f)) p)) ∙ ap (λ l. putAll l p) (rw (le-ltb k 21 h) at whole)
 
-  counted : getD frontLengths k 0 + length (pick (ltb k 21) [] (decimal (carried f))) ≡ length (fieldText f)
+  counted : frontLength k + length (pick (ltb k 21) [] (decimal (carried f))) ≡ length (fieldText f)
   counted =
       let text =
       each-at (λ j. front j ++ pick (ltb j 21) [] (decimal (carried f))) (λ j. fieldText (fieldOf j (carried f))) 25 (texts-told (carried f)) k own
       in
-      let count = each-at (λ j. length (front j)) (λ j. getD frontLengths j 0) 25 lengths-told k own in
+      let count = each-at (λ j. length (front j)) (λ j. frontLength j) 25 lengths-told k own in
       sym
       (ap length (sym (ap fieldText again) ∙ sym text)
       ∙ length-append (front k) (pick (ltb k 21) [] (decimal (carried f)))
       ∙ ap (λ n. n + length (pick (ltb k 21) [] (decimal (carried f)))) count)
 
-  pub count-bare : k < 21 → getD frontLengths k 0 ≡ length (fieldText f)
+  pub count-bare : k < 21 → frontLength k ≡ length (fieldText f)
   unfolding pick
   count-bare h = let c = rw (lt-ltb k 21 h) at counted in omega (arith, c)
 
-  pub count-numbered : 21 ≤ k → getD frontLengths k 0 + length (decimal (carried f)) ≡ length (fieldText f)
+  pub count-numbered : 21 ≤ k → frontLength k + length (decimal (carried f)) ≡ length (fieldText f)
   unfolding pick
   count-numbered h = rw (le-ltb k 21 h) at counted
 
-  pub short-front : getD frontLengths k 0 ≤ 5
+  pub short-front : frontLength k ≤ 5
   short-front =
-      let short = each-at (λ j. ltb (getD frontLengths j 0) 6) (λ j. true) 25 short-lengths k own in
-      omega (arith, ltb-true (getD frontLengths k 0) 6 short)
+      let short = each-at (λ j. ltb (frontLength j) 6) (λ j. true) 25 short-lengths k own in
+      omega (arith, ltb-true (frontLength k) 6 short)

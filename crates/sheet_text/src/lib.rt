@@ -33,34 +33,8 @@ const FRONTS: [u8; 125] = *b"ELSE THEN SEND NEG  NOT  \
     +    -    *    /    **   <<   >>   &    !    !!   \
     IF\t= IF\t# IF\t< IF\t<=IF\t> IF\t>=W    K    SET\t GOTO\t";
 
-// Their lengths.
-const FRONT_LENGTHS: [usize; 25] = [
-    4,
-    4,
-    4,
-    3,
-    3,
-    1,
-    1,
-    1,
-    1,
-    2,
-    2,
-    2,
-    1,
-    1,
-    2,
-    4,
-    4,
-    4,
-    5,
-    4,
-    5,
-    1,
-    1,
-    4,
-    5,
-];
+// Their lengths, as digits.
+const FRONT_LENGTHS: [u8; 25] = *b"4443311112221124445451145";
 
 // A fixed string and the number behind it.
 fn put_numbered(buffer: &mut [u8], at: usize, string: &[u8], n: u32) -> usize
@@ -75,7 +49,11 @@ fn put_field(buffer: &mut [u8], at: usize, f: Field) -> usize
     ensures { λ r. ⌜ placed r (now (buffer .exit)) ≡ putAll (fieldText f) (placed at (now (buffer .entry))) ⌝ }
 {
     let k = kind_of(f) as usize;
-    let i = put_fixed(buffer, at, part(&FRONTS, 5 * k, FRONT_LENGTHS[k]));
+    let i = put_fixed(
+        buffer,
+        at,
+        part(&FRONTS, 5 * k, (FRONT_LENGTHS[k] % 16) as usize),
+    );
     if k < 21 {
         return i;
     }
@@ -165,7 +143,7 @@ fn field_length(f: Field) -> usize
     ensures few { λ r. ⌜ r ≤ 15 ⌝ }
 {
     let k = kind_of(f) as usize;
-    let front = FRONT_LENGTHS[k];
+    let front = (FRONT_LENGTHS[k] % 16) as usize;
     if k < 21 {
         return front;
     }

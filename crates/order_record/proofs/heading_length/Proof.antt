@@ -3,7 +3,6 @@ use mathlib.Core.Path.{ap}
 use lib.ListN.{length}
 use native.Mathlib.Omega.{arith}
 use Rattle.base.specs.Text.{bytes}
-use Rattle.order.specs.Memory.{shapes}
 use Rattle.order.specs.Object.{heading}
 use Rattle.order.proofs.Numbers.{no-order}
 use Rattle.order_record.proofs.Writing.{heading-length, heading-short}
@@ -11,7 +10,7 @@ use Rattle.order_record.proofs.heading_length.Statement.{statement}
 use Rattle.order_record.proofs.heading_length.Tie as tie
 
 returns : tie.Need-returns
-unfolding shapes bytes
+unfolding bytes
 returns c = let e = heading-length _ (c .if1 .taken) in (e, rw e (heading-short _))
 
 returns-2 : tie.Need-returns-2

@@ -42,8 +42,8 @@ field-length-spec =
     (tie.spec
     (λ c κs. search needs)
     (λ c. search needs)
-    (λ c. search needs)
     array-read-front
+    (λ c. search needs)
     returns
     (λ c κs. search needs)
     (λ c κs. search needs)
