@@ -1,4 +1,5 @@
 pub mod Loops
+pub mod Numbers
 pub mod Agreement
 pub mod Fields
 pub mod Wholes

@@ -17,8 +17,9 @@ use Rattle.untranslate_look.specs.declared.orders.Place.the-variants.{At, Nowhe
 use Rattle.untranslate_look.specs.Internal.{Held, view, went, stuck, onStep, isEndAt, orderAt}
 use Rattle.untranslate_look.proofs.Left.{left, none-left}
 use Rattle.untranslate_shape.specs.Internal.{shapeAt, shapePast}
-use Rattle.untranslate_instruction.specs.Internal.{instructionRead, wordsFrom, numberIn}
-use Rattle.untranslate.specs.Internal.{downFrom, allRead, Starts, starts, unmarked, behind, startsOn, startsFrom}
+use Rattle.untranslate_instruction.specs.Internal.{instructionRead}
+use Rattle.untranslate.specs.Internal.{wordsFrom, Starts, starts, unmarked, behind, startsOn, startsFrom, putNumbers}
+use Rattle.untranslate.specs.Internal.{downFrom, allRead}
 
 -- ---- the temporaries that are used
 
@@ -107,6 +108,45 @@ module _ (at : ℕ → Order) (first n : ℕ) (ss₀ : List ℕ) where
               ∙ rw (left n count h, e, ← s) at (m .so-far l);
         }
 
+-- ---- the numbers of these places
+
+-- the places from the i-th on have their numbers; ws₀ is the array at first
+pub record Numbering (ss : List ℕ) (many : ℕ) (ws₀ ws : List ℕ) (i : ℕ) : Type 0 where
+  pub long : length ws ≡ length ws₀
+  pub not-more : i ≤ many
+  pub so-far : ws ≡ putNumbers (wordsFrom i (many - i) ss) (i + 1) ws₀
+
+module _ (ss : List ℕ) (many : ℕ) (ws₀ : List ℕ) where
+  pub numbering-start : Numbering ss many ws₀ ws₀ many
+  unfolding putNumbers wordsFrom
+  numbering-start = record {
+    long = refl;
+    not-more = omega arith;
+    so-far = rw (none-left many many (omega arith)) refl;
+  }
+
+  pub numbering-turn : (ws : List ℕ) (i : ℕ) → 0 < i → Numbering ss many ws₀ ws i
+      → Numbering ss many ws₀ (set ws (getD ss (i - 1) 0) i) (i - 1)
+  unfolding putNumbers wordsFrom
+  numbering-turn ws i h m = record {
+    long = length-set ws (getD ss (i - 1) 0) i ∙ m .long;
+    not-more = omega (arith, m .not-more);
+    so-far = rw (more, add-one (i - 1), ← one)
+        (ap (λ l. set l (getD ss (i - 1) 0) i)
+        (m .so-far ∙ ap (λ s. putNumbers (wordsFrom i (many - i) ss) s ws₀) (add-one i)));
+  }
+    where
+      one : i ≡ suc (i - 1)
+      one = omega arith
+
+      more : many - (i - 1) ≡ suc (many - i)
+      more = omega (arith, m .not-more)
+
+  pub numbering-over : (ws : List ℕ) (i : ℕ) → i ≤ 0 → Numbering ss many ws₀ ws i
+      → ws ≡ putNumbers (wordsFrom 0 many ss) 1 ws₀
+  numbering-over ws zero l m = rw sub-zero at (m .so-far)
+  numbering-over ws (suc i) l m = absurd (omega arith)
+
 -- ---- the instructions, the last first
 
 module _ (at : ℕ → Order) (first n : ℕ) (to : ℕ → ℕ) (ss : List ℕ) (i : ℕ) (h : Held) (some : 0 < i) where
@@ -139,21 +179,20 @@ pub record Falling (at : ℕ → Order) (first n : ℕ) (to : ℕ → ℕ) (ss :
   pub to-come : downFrom at first n to ss i (view out ks vs) ≡ downFrom at first n to ss (many - 1)
       (view (length ks₀) ks₀ vs₀)
 
-module _ (at : ℕ → Order) (first n : ℕ) (ss : List ℕ) (many : ℕ) (h : Held) where
-  pub all-none : many ≡ 0 → stuck ≡ allRead at first n ss many h
+module _ (at : ℕ → Order) (first n : ℕ) (to : ℕ → ℕ) (ss : List ℕ) (many : ℕ) (h : Held) where
+  pub all-none : many ≡ 0 → stuck ≡ allRead at first n to ss many h
   unfolding allRead pick
   all-none z = rw (eq-eqb many 0 z) refl
 
   module _ (z : many ≡ 0 → ⊥) where
-    pub all-stuck : stuck ≡ downFrom at first n (numberIn (wordsFrom 0 many ss) 1) ss (many - 1) h
-        → stuck ≡ allRead at first n ss many h
+    pub all-stuck : stuck ≡ downFrom at first n to ss (many - 1) h
+        → stuck ≡ allRead at first n to ss many h
     unfolding allRead pick onStep
     all-stuck d = rw (ne-eqb many 0 z, ← d) refl
 
     pub all-over : (i : ℕ) (h₁ : Held) → i ≤ 0
-        → downFrom at first n (numberIn (wordsFrom 0 many ss) 1) ss i h₁ ≡ downFrom at first n
-        (numberIn (wordsFrom 0 many ss) 1) ss (many - 1) h
-        → went (many - 1) h₁ ≡ allRead at first n ss many h
+        → downFrom at first n to ss i h₁ ≡ downFrom at first n to ss (many - 1) h
+        → went (many - 1) h₁ ≡ allRead at first n to ss many h
     unfolding allRead downFrom pick onStep
     all-over zero h₁ l d = rw (ne-eqb many 0 z, ← d) refl
     all-over (suc i) h₁ l d = absurd (omega arith)

@@ -23,8 +23,9 @@ use Rattle.sheet.specs.Temporaries.{largestStored}
 use Rattle.untranslate_look.specs.Internal.{isEndAt, Held, held, Step, went, onStep}
 use Rattle.untranslate_shape.specs.declared.Shape.{Shape}
 use Rattle.untranslate_shape.specs.Internal.{shapeAt, shapePast}
-use Rattle.untranslate_instruction.specs.Internal.{numberIn, instructionRead}
+use Rattle.untranslate_instruction.specs.Internal.{instructionRead}
 use Rattle.untranslate.specs.Internal.{counted, Starts, starts, unmarked, behind, startsOn, startsFrom}
+use Rattle.untranslate.proofs.Numbers.{numberIn}
 use Rattle.untranslate.proofs.Fields.{Answer, wrote, refused, inFront, Does, refuses, writes, does-same, does-then}
 use Rattle.untranslate.proofs.Simples.{forward}
 use Rattle.untranslate.proofs.Instructions.{answerOne, InstructionPart, bad, unread, whole, instruction-part}

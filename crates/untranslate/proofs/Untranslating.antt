@@ -24,12 +24,14 @@ use Rattle.sheet.proofs.Retargeted.{length-same, temporaries-same}
 use Rattle.sheet_field.specs.Memory.{fieldsFrom}
 use Rattle.untranslate_look.specs.Internal.{orderAt, Held, held, view, Step, went, stuck, onStep}
 use Rattle.untranslate_shape.specs.Internal.{shapeAt}
-use Rattle.untranslate_instruction.specs.Internal.{wordsFrom, numberIn, instructionRead}
+use Rattle.untranslate_instruction.specs.Internal.{numberAt, instructionRead}
 use Rattle.untranslate.specs.declared.Untranslated.{Untranslated}
 use Rattle.untranslate.specs.declared.Untranslated.the-variants.{Sheet, Missing}
 use Rattle.untranslate.specs.Answers.{Offer, fieldsOfSheet, refusal, readOff, offered}
-use Rattle.untranslate.specs.Internal.{counted, Starts, starts, unmarked, startsFrom, downFrom, allRead, untold}
+use Rattle.untranslate.specs.Internal.{wordsFrom, counted, Starts, starts, unmarked, startsFrom, putNumbers, downFrom}
+use Rattle.untranslate.specs.Internal.{allRead, untold}
 use Rattle.untranslate.proofs.Loops.{words-more}
+use Rattle.untranslate.proofs.Numbers.{numberIn, number-same}
 use Rattle.untranslate.proofs.Fields.{wrote, refused, Does, refuses, writes}
 use Rattle.untranslate.proofs.Simples.{forward, forward-length}
 use Rattle.untranslate.proofs.Sheets.{number-starts, allAt, answerAll, AllKnown, AllPart, no-starts, some-starts}
@@ -138,9 +140,10 @@ module _ (at : ℕ → Order) (v n t : ℕ) where
   pub untold-places : unmarked ≡ startsFrom at (v + 2) n n 0 → refusal 31 0 ≡ Clean (instructionsAt n v n (forward at 0 n))
   untold-places e = unmarked-nothing (all-part at v n n 0 n (omega arith)) e
 
-  module _ (ss : List ℕ) (many all : ℕ) (room : 2 * n ≤ all) (same : largestStored v (forward at 0 n) ≡ t) where
+  module _ (ss : List ℕ) (many all : ℕ) (room : 2 * n ≤ all) (same : largestStored v (forward at 0 n) ≡ t) (to : ℕ → ℕ)
+      (to-same : (a : ℕ) → to a ≡ numberIn (wordsFrom 0 many ss) 1 a) where
     abbrev answered : Offer
-    answered = offerOf (allRead at (v + 2) n ss many (held all all all []))
+    answered = offerOf (allRead at (v + 2) n to ss many (held all all all []))
 
     module _ (ps : List ℕ) (last : ℕ) (e : wordsFrom 0 many ss ≡ ps ++ (last ∷ [])) where
       places : many ≡ suc (length ps)
@@ -157,27 +160,24 @@ module _ (at : ℕ → Order) (v n t : ℕ) where
           front-same (wordsFrom 0 (many - 1) ss) ps (getD ss (0 + (many - 1)) 0) last
           (sym (words-more (many - 1) 0 ss) ∙ ap (λ k. wordsFrom 0 k ss) one ∙ e)
 
-      by-places : allRead at (v + 2) n ss many (held all all all [])
-          ≡ counted (many - 1) (allAt at v n (numberIn (wordsFrom 0 many ss) 1) ps (held all all all []))
+      by-places : allRead at (v + 2) n to ss many (held all all all [])
+          ≡ counted (many - 1) (allAt at v n to ps (held all all all []))
       unfolding allRead pick
       by-places =
           let c = places in
           let some : many ≡ 0 → ⊥ = λ z. omega (arith, c, z) in
           rw (ne-eqb many 0 some)
           (ap (counted (many - 1))
-          (down-all at v n (numberIn (wordsFrom 0 many ss) 1) ss (many - 1) (held all all all [])
-          ∙ ap (λ l. allAt at v n (numberIn (wordsFrom 0 many ss) 1) l (held all all all [])) front))
+          (down-all at v n to ss (many - 1) (held all all all []) ∙ ap (λ l. allAt at v n to l (held all all all [])) front))
 
       -- nothing is read
-      refused-all : last ≤ n → Does all 0 last (allAt at v n (numberIn (wordsFrom 0 many ss) 1) ps) refused
-          → answered ≡ refusal 31 0
+      refused-all : last ≤ n → Does all 0 last (allAt at v n to ps) refused → answered ≡ refusal 31 0
       unfolding onStep
       refused-all l d =
           ap offerOf (by-places ∙ ap (counted (many - 1)) (when-refused d all [] (omega (arith, l, room)) (omega arith)))
 
       -- the fields fs are read
-      wrote-all : (fs : List Field) → last ≤ n
-          → Does all 0 last (allAt at v n (numberIn (wordsFrom 0 many ss) 1) ps) (wrote fs)
+      wrote-all : (fs : List Field) → last ≤ n → Does all 0 last (allAt at v n to ps) (wrote fs)
           → answered ≡ fieldsOfSheet (length ps) fs
       unfolding onStep
       wrote-all fs l d =
@@ -186,9 +186,7 @@ module _ (at : ℕ → Order) (v n t : ℕ) where
           let count : many - 1 ≡ length ps = omega (arith, c) in
           ap offerOf (by-places ∙ ap (counted (many - 1)) w) ∙ ap₂ fieldsOfSheet count (append-nil fs))
 
-      all-known : (b : Back (List Instruction)) → last ≤ n
-          → Does all 0 last (allAt at v n (numberIn (wordsFrom 0 many ss) 1) ps)
-          (answerAll at v n (numberIn (wordsFrom 0 many ss) 1) b)
+      all-known : (b : Back (List Instruction)) → last ≤ n → Does all 0 last (allAt at v n to ps) (answerAll at v n to b)
           → AllKnown at v n 0 n ps last b → answered ≡ Clean b
       unfolding pick
       all-known missing l d known = refused-all l d
@@ -202,24 +200,21 @@ module _ (at : ℕ → Order) (v n t : ℕ) where
           js : List Instruction
           js = retargetAll (numberOf v is) is
 
-          numbers : numberIn (wordsFrom 0 many ss) 1 ≡ numberOf v is
-          numbers = fun-ext (λ a. ap (λ l. numberIn l 1 a) (e ∙ known .0) ∙ number-starts v is 0 1 a)
+          numbers : to ≡ numberOf v is
+          numbers = fun-ext (λ a. to-same a ∙ ap (λ l. numberIn l 1 a) (e ∙ known .0) ∙ number-starts v is 0 1 a)
 
           agree : eqb (temporariesOfAll js) t ≡ true
           agree = eq-eqb (temporariesOfAll js) t (temporaries-same (numberOf v is) is ∙ sym (known .2) ∙ same)
 
-          d₁ : Does all 0 last (allAt at v n (numberIn (wordsFrom 0 many ss) 1) ps)
-              (pick (leadsAll js) (wrote (fieldsOfAll js)) refused)
-          d₁ =
-              subst (λ to. Does all 0 last (allAt at v n (numberIn (wordsFrom 0 many ss) 1) ps)
-              (answerAll at v n to (found is rest))) numbers d
+          d₁ : Does all 0 last (allAt at v n to ps) (pick (leadsAll js) (wrote (fieldsOfAll js)) refused)
+          d₁ = subst (λ g. Does all 0 last (allAt at v n to ps) (answerAll at v n g (found is rest))) numbers d
 
     all-told : {s : Starts} {b : Back (List Instruction)} → AllPart at v n 0 n s b → starts (wordsFrom 0 many ss) ≡ s
         → answered ≡ Clean b
     all-told no-starts e = let z : _≡_ {A = ℕ} 0 1 = cc in absurd (omega (arith, z))
     all-told (some-starts ps last b l d known) e =
         let w : wordsFrom 0 many ss ≡ ps ++ (last ∷ []) = cc in
-        all-known ps last w b l (d all (numberIn (wordsFrom 0 many ss) 1)) known
+        all-known ps last w b l (d all to) known
 
     pub told-all : starts (wordsFrom 0 many ss) ≡ startsFrom at (v + 2) n n 0
         → answered ≡ Clean (instructionsAt n v n (forward at 0 n))
@@ -251,14 +246,18 @@ module _ (ns os : List ℕ) (n v t : ℕ) where
       let none : length ks - length ks ≡ 0 = omega arith in
       rw (e, none) refl
 
-  pub sheet-given : (r : Untranslated) (ks vs ks₀ vs₀ ss : List ℕ) (many : ℕ)
-      → untold r ks vs ≡ allRead (orderAt ns os) (v + 2) n ss many (view (length ks₀) ks₀ vs₀)
+  pub sheet-given : (r : Untranslated) (ks vs ks₀ vs₀ ss ws ws₀ : List ℕ) (many : ℕ)
+      → untold r ks vs ≡ allRead (orderAt ns os) (v + 2) n (numberAt ws) ss many (view (length ks₀) ks₀ vs₀)
+      → ws ≡ putNumbers (wordsFrom 0 many ss) 1 ws₀ → n ≤ length ws₀ → ((a : ℕ) → getD ws₀ a 0 ≡ 0)
       → starts (wordsFrom 0 many ss) ≡ startsFrom (orderAt ns os) (v + 2) n n 0
       → largestStored v (ordersFrom 0 n ns os) ≡ t
       → length vs₀ ≡ length ks₀ → 2 * n ≤ length ks₀
       → readOff r ks vs ≡ Given
-  sheet-given r ks vs ks₀ vs₀ ss many e s u l h =
+  sheet-given r ks vs ks₀ vs₀ ss ws ws₀ many e w m z s u l h =
       read-off r ks vs
-      ∙ ap offerOf (e ∙ ap (allRead (orderAt ns os) (v + 2) n ss many) (empty-view ks₀ vs₀ l))
-      ∙ told-all (orderAt ns os) v n t ss many (length ks₀) h (ap (largestStored v) (sym (orders-forward ns os 0 n)) ∙ u) s
+      ∙ ap offerOf (e ∙ ap (allRead (orderAt ns os) (v + 2) n (numberAt ws) ss many) (empty-view ks₀ vs₀ l))
+      ∙ told-all (orderAt ns os) v n t ss many (length ks₀) h (ap (largestStored v) (sym (orders-forward ns os 0 n)) ∙ u)
+      (numberAt ws)
+      (λ a. ap (λ x. getD x a 0) w ∙ number-same (orderAt ns os) (v + 2) n (wordsFrom 0 many ss) ws₀ s m z a)
+      s
       ∙ clean-orders

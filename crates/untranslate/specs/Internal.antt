@@ -3,18 +3,23 @@
 use Prim.Native.Nat.{ℕ, zero, suc, _+_, _-_}
 use mathlib.Core.List.{List, [], _∷_, _++_}
 use lib.Dec.{eqb}
-use lib.ListN.{getD}
+use lib.ListN.{getD, set}
 use Rattle.base.specs.Choice.{pick}
 use Rattle.order.specs.declared.Order.{Order}
 use Rattle.untranslate_look.specs.declared.orders.Place.{Place}
 use Rattle.untranslate_look.specs.declared.orders.Place.the-variants.{At, Nowhere}
 use Rattle.untranslate_look.specs.Internal.{isEndAt, Held, view, Step, went, stuck, onStep}
 use Rattle.untranslate_shape.specs.Internal.{shapeAt, shapePast}
-use Rattle.untranslate_instruction.specs.Internal.{wordsFrom, numberIn, instructionRead}
+use Rattle.untranslate_instruction.specs.Internal.{instructionRead}
 use Rattle.untranslate.specs.declared.Untranslated.{Untranslated}
 use Rattle.untranslate.specs.declared.Untranslated.the-variants.{Sheet, Missing as NoSheet}
 use Rattle.untranslate.specs.declared.Marked.{Marked}
 use Rattle.untranslate.specs.declared.Marked.the-variants.{Places, Missing as NoPlaces}
+
+-- the k words from place i on of an array
+unfoldable pub wordsFrom : ℕ → ℕ → List ℕ → List ℕ
+wordsFrom i zero ws = []
+wordsFrom i (suc k) ws = getD ws i 0 ∷ wordsFrom (suc i) k ws
 
 -- ---- the whole
 
@@ -44,7 +49,13 @@ startsFrom at first n (suc most) p =
     (starts (p ∷ []))
     (startsOn (shapePast (shapeAt at first n p)) (λ q. behind (p ∷ []) (startsFrom at first n most q)))
 
--- the instructions at the first i places of ss, the last first
+-- an array where each of these places has its number, the first of them s; of equal places the first keeps its own
+unfoldable pub putNumbers : List ℕ → ℕ → List ℕ → List ℕ
+putNumbers [] s ws = ws
+putNumbers (p ∷ ps) s ws = set (putNumbers ps (suc s) ws) p s
+
+-- the instructions at the first i places of ss, the last first; `to` gives the number of the instruction that begins at a
+-- place, 0 where none does
 unfoldable pub downFrom : (ℕ → Order) → ℕ → ℕ → (ℕ → ℕ) → List ℕ → ℕ → Held → Step
 downFrom at first n to ss zero h = went 0 h
 downFrom at first n to ss (suc i) h =
@@ -56,12 +67,9 @@ downFrom at first n to ss (suc i) h =
 abbrev pub counted : ℕ → Step → Step
 counted count s = onStep s (λ e h. went count h)
 
-unfoldable pub allRead : (ℕ → Order) → ℕ → ℕ → List ℕ → ℕ → Held → Step
-allRead at first n ss many h =
-    pick
-    (eqb many 0)
-    stuck
-    (counted (many - 1) (downFrom at first n (numberIn (wordsFrom 0 many ss) 1) ss (many - 1) h))
+unfoldable pub allRead : (ℕ → Order) → ℕ → ℕ → (ℕ → ℕ) → List ℕ → ℕ → Held → Step
+allRead at first n to ss many h =
+    pick (eqb many 0) stuck (counted (many - 1) (downFrom at first n to ss (many - 1) h))
 
 abbrev pub untold : Untranslated → List ℕ → List ℕ → Step
 untold (Sheet count out) ks vs = went count (view out ks vs)

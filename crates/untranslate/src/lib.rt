@@ -1,5 +1,5 @@
 // From the orders of an object back to the fields of the sheet that translates to them: first where each instruction
-// begins, then the instructions, the last first.
+// begins, then the number of each by its place, then the instructions, the last first.
 use order::MOST_ORDERS;
 use order::MOST_VARIABLES;
 use order::Order;
@@ -19,8 +19,9 @@ ghost use Rattle.sheet.specs.ReadBack.{untranslate};
 ghost use Rattle.sheet.specs.Temporaries.{temporaryOf, storedTo, largestStored};
 ghost use Rattle.sheet_field.specs.Memory.{mostFields};
 ghost use Rattle.untranslate_look.specs.Internal.{orderAt, view};
+ghost use Rattle.untranslate_instruction.specs.Internal.{numberAt};
 ghost use Rattle.untranslate.specs.Answers.{readOff, offered};
-ghost use Rattle.untranslate.specs.Internal.{marked, startsFrom, untold, allRead};
+ghost use Rattle.untranslate.specs.Internal.{wordsFrom, marked, startsFrom, putNumbers, untold, allRead};
 
 // The number of instructions, and the place from which the fields stand in the arrays, up to their end; or that no sheet
 // translates to the orders. The arrays then hold anything.
@@ -101,6 +102,19 @@ fn mark(numbers: &[u8], operands: &[u32], n: u32, first: u32, starts: &mut [u32]
     Marked::Missing
 }
 
+// Puts the number of each place in `starts`, from 1, into `numbered` at that place; of equal places the first keeps its own.
+fn number_all(starts: &[u32], many: u32, numbered: &mut [u32])
+    ensures { λ _.
+        ⌜ now (numbered .exit) ≡ putNumbers (wordsFrom 0 many (now (starts .entry))) 1 (now (numbered .entry)) ⌝ }
+{
+    let mut i = many;
+    while 0 < i {
+        let p = base::word_at(starts, i as usize - 1);
+        base::put_word(numbered, p as usize, i);
+        i -= 1;
+    }
+}
+
 // The fields of all instructions.
 fn put_all(
     numbers: &[u8],
@@ -109,12 +123,14 @@ fn put_all(
     first: u32,
     starts: &[u32],
     many: u32,
+    numbered: &[u32],
     kinds: &mut [u8],
     values: &mut [u32],
 ) -> Untranslated
     ensures { λ r.
         ⌜ untold r (now (kinds .exit)) (now (values .exit))
-        ≡ allRead (orderAt (now (numbers .entry)) (now (operands .entry))) first n (now (starts .entry)) many
+        ≡ allRead (orderAt (now (numbers .entry)) (now (operands .entry))) first n (numberAt (now (numbered .entry)))
+        (now (starts .entry)) many
         (view (length (now (kinds .entry))) (now (kinds .entry)) (now (values .entry))) ⌝ }
 {
     if many == 0 {
@@ -130,8 +146,7 @@ fn put_all(
             numbers,
             operands,
             first,
-            starts,
-            many,
+            numbered,
             p,
             shape,
             kinds,
@@ -175,5 +190,17 @@ pub fn untranslate(
     let Marked::Places(many) = mark(numbers, operands, n, v + 2, &mut starts) else {
         return Untranslated::Missing;
     };
-    put_all(numbers, operands, n, v + 2, &starts, many, kinds, values)
+    let mut numbered = [0u32; MOST_ORDERS as usize];
+    number_all(&starts, many, &mut numbered);
+    put_all(
+        numbers,
+        operands,
+        n,
+        v + 2,
+        &starts,
+        many,
+        &numbered,
+        kinds,
+        values,
+    )
 }

@@ -1,7 +1,7 @@
 -- What the functions do. Orders are read by their places, `at`; first is the word of the first temporary. `to` gives the
 -- number of the instruction that begins at a place, 0 where none does.
-use Prim.Native.Nat.{ℕ, zero, suc, _-_}
-use mathlib.Core.List.{List, [], _∷_}
+use Prim.Native.Nat.{ℕ, _-_}
+use mathlib.Core.List.{List}
 use lib.Dec.{leb, eqb}
 use lib.ListN.{getD}
 use Rattle.base.specs.Choice.{pick}
@@ -16,15 +16,9 @@ use Rattle.untranslate_shape.specs.declared.Shape.{Shape}
 use Rattle.untranslate_shape.specs.declared.Shape.the-variants.{Simple, When, Either, Bad as NoShape}
 use Rattle.untranslate_shape.specs.Internal.{endingOf}
 
--- the k words from place i on of an array
-unfoldable pub wordsFrom : ℕ → ℕ → List ℕ → List ℕ
-wordsFrom i zero ws = []
-wordsFrom i (suc k) ws = getD ws i 0 ∷ wordsFrom (suc i) k ws
-
--- the number of a place among these, the first of which has the number s; 0 where it is none of them
-unfoldable pub numberIn : List ℕ → ℕ → ℕ → ℕ
-numberIn [] s a = 0
-numberIn (p ∷ ps) s a = pick (eqb p a) s (numberIn ps (suc s) a)
+-- what `numbered` has at a place
+abbrev pub numberAt : List ℕ → ℕ → ℕ
+numberAt numbered a = getD numbered a 0
 
 unfoldable pub gotoRead : (ℕ → ℕ) → ℕ → ℕ → ℕ → Held → Step
 gotoRead to p last a h =

@@ -1,5 +1,5 @@
-// The fields of an instruction, the last first. `starts` holds the places where the instructions and STOP begin, `many` of
-// them: GOTO has the number of one of these, from 1.
+// The fields of an instruction, the last first. `numbered` has at each place the number of the instruction that begins there,
+// 0 where none does: GOTO has the number at the place where its JMP leads.
 use sheet::Field;
 use sheet_field::opposite_of;
 use untranslate_expression::read_comparison;
@@ -13,27 +13,12 @@ use untranslate_shape::Shape;
 use untranslate_shape::ending_of;
 ghost use mathlib.Core.Path.{_≡_};
 ghost use Rattle.untranslate_look.specs.Internal.{orderAt, view, told};
-ghost use Rattle.untranslate_instruction.specs.Internal.{wordsFrom, numberIn, gotoRead, simpleRead, conditionRead};
+ghost use Rattle.untranslate_instruction.specs.Internal.{numberAt, gotoRead, simpleRead, conditionRead};
 ghost use Rattle.untranslate_instruction.specs.Internal.{choiceRead, eitherRead, instructionRead};
-
-// The number of the place a, from 1; 0 where it is none of them.
-fn number_at(starts: &[u32], many: u32, a: u32) -> u32
-    ensures { λ r. ⌜ r ≡ numberIn (wordsFrom 0 many (now (starts .entry))) 1 a ⌝ }
-{
-    let mut i: u32 = 0;
-    while i < many {
-        if base::word_at(starts, i as usize) == a {
-            return i + 1;
-        }
-        i += 1;
-    }
-    0
-}
 
 // GOTO, which has no order but its JMP.
 fn put_goto(
-    starts: &[u32],
-    many: u32,
+    numbered: &[u32],
     p: u32,
     last: u32,
     a: u32,
@@ -43,13 +28,13 @@ fn put_goto(
 ) -> Back
     ensures { λ r.
         ⌜ told r (now (kinds .exit)) (now (values .exit))
-        ≡ gotoRead (numberIn (wordsFrom 0 many (now (starts .entry))) 1) p last a
+        ≡ gotoRead (numberAt (now (numbered .entry))) p last a
         (view out (now (kinds .entry)) (now (values .entry))) ⌝ }
 {
     if p != last {
         return Back::Missing;
     }
-    let s = number_at(starts, many, a);
+    let s = base::word_at(numbered, a as usize);
     if s == 0 {
         return Back::Missing;
     }
@@ -62,8 +47,7 @@ fn put_simple(
     numbers: &[u8],
     operands: &[u32],
     first: u32,
-    starts: &[u32],
-    many: u32,
+    numbered: &[u32],
     p: u32,
     q: u32,
     kinds: &mut [u8],
@@ -73,7 +57,7 @@ fn put_simple(
     ensures { λ r.
         ⌜ told r (now (kinds .exit)) (now (values .exit))
         ≡ simpleRead (orderAt (now (numbers .entry)) (now (operands .entry))) first
-        (numberIn (wordsFrom 0 many (now (starts .entry))) 1) p q
+        (numberAt (now (numbered .entry))) p q
         (view out (now (kinds .entry)) (now (values .entry))) ⌝ }
 {
     if q <= p {
@@ -85,7 +69,7 @@ fn put_simple(
             let back = read_whole(numbers, operands, p, last, first, kinds, values, out);
             put_before(kinds, values, back, f)
         }
-        Ending::Jumps(a) => put_goto(starts, many, p, last, a, kinds, values, out),
+        Ending::Jumps(a) => put_goto(numbered, p, last, a, kinds, values, out),
         Ending::Branches(_, _) => Back::Missing,
         Ending::Bad => Back::Missing,
     }
@@ -129,8 +113,7 @@ fn put_choice(
     numbers: &[u8],
     operands: &[u32],
     first: u32,
-    starts: &[u32],
-    many: u32,
+    numbered: &[u32],
     p: u32,
     u: u32,
     q: u32,
@@ -141,21 +124,10 @@ fn put_choice(
     ensures { λ r.
         ⌜ told r (now (kinds .exit)) (now (values .exit))
         ≡ choiceRead (orderAt (now (numbers .entry)) (now (operands .entry))) first
-        (numberIn (wordsFrom 0 many (now (starts .entry))) 1) p u q
+        (numberAt (now (numbered .entry))) p u q
         (view out (now (kinds .entry)) (now (values .entry))) ⌝ }
 {
-    let back = put_simple(
-        numbers,
-        operands,
-        first,
-        starts,
-        many,
-        u,
-        q,
-        kinds,
-        values,
-        out,
-    );
+    let back = put_simple(numbers, operands, first, numbered, u, q, kinds, values, out);
     let Back::Found(_, o) = back else {
         return Back::Missing;
     };
@@ -167,8 +139,7 @@ fn put_either(
     numbers: &[u8],
     operands: &[u32],
     first: u32,
-    starts: &[u32],
-    many: u32,
+    numbered: &[u32],
     p: u32,
     u: u32,
     w: u32,
@@ -180,24 +151,13 @@ fn put_either(
     ensures { λ r.
         ⌜ told r (now (kinds .exit)) (now (values .exit))
         ≡ eitherRead (orderAt (now (numbers .entry)) (now (operands .entry))) first
-        (numberIn (wordsFrom 0 many (now (starts .entry))) 1) p u w e
+        (numberAt (now (numbered .entry))) p u w e
         (view out (now (kinds .entry)) (now (values .entry))) ⌝ }
 {
     if w == 0 {
         return Back::Missing;
     }
-    let back = put_simple(
-        numbers,
-        operands,
-        first,
-        starts,
-        many,
-        w,
-        e,
-        kinds,
-        values,
-        out,
-    );
+    let back = put_simple(numbers, operands, first, numbered, w, e, kinds, values, out);
     let Back::Found(_, o) = back else {
         return Back::Missing;
     };
@@ -206,8 +166,7 @@ fn put_either(
         numbers,
         operands,
         first,
-        starts,
-        many,
+        numbered,
         p,
         u,
         w - 1,
@@ -222,8 +181,7 @@ pub fn put_instruction(
     numbers: &[u8],
     operands: &[u32],
     first: u32,
-    starts: &[u32],
-    many: u32,
+    numbered: &[u32],
     p: u32,
     shape: Shape,
     kinds: &mut [u8],
@@ -233,31 +191,19 @@ pub fn put_instruction(
     ensures { λ r.
         ⌜ told r (now (kinds .exit)) (now (values .exit))
         ≡ instructionRead (orderAt (now (numbers .entry)) (now (operands .entry))) first
-        (numberIn (wordsFrom 0 many (now (starts .entry))) 1) p shape
+        (numberAt (now (numbered .entry))) p shape
         (view out (now (kinds .entry)) (now (values .entry))) ⌝ }
 {
     match shape {
         Shape::Simple(q) => {
-            put_simple(
-                numbers,
-                operands,
-                first,
-                starts,
-                many,
-                p,
-                q,
-                kinds,
-                values,
-                out,
-            )
+            put_simple(numbers, operands, first, numbered, p, q, kinds, values, out)
         }
         Shape::When(u, q) => {
             put_choice(
                 numbers,
                 operands,
                 first,
-                starts,
-                many,
+                numbered,
                 p,
                 u,
                 q,
@@ -271,8 +217,7 @@ pub fn put_instruction(
                 numbers,
                 operands,
                 first,
-                starts,
-                many,
+                numbered,
                 p,
                 u,
                 w,

@@ -1,5 +1,6 @@
 use mathlib.Core.Path.{sym, _∙_}
 use native.Mathlib.Omega.{arith}
+use Rattle.base.proofs.Lists.{getD-repeated}
 use Rattle.untranslate.proofs.Untranslating.{temporaries-nothing, places-nothing, sheet-given}
 use borrow.Author.Needs.{needs}
 use Rattle.untranslate.proofs.untranslate.Statement.{statement}
@@ -22,14 +23,16 @@ returns-4 c =
 returns-5 : tie.Need-returns-5
 returns-5 c =
     let c₁ = c .before .before .before .before in
-    let c₂ = c₁ .before .before .before .before .before in
-    let c₃ = c₂ .before .before .before in
-    let c₄ = c₃ .before .before in
-    let c₅ = c₄ .before in
-    let c₆ = c₅ .before .before .before .before .before .before .before in
-    λ a b d e. sheet-given _ _ _ _ _ (c₁ .put-all .result) _ _ (c₆ .args .kinds .now) (c₆ .args .values .now) _ _
-    (c₁ .put-all .ensures) (rw (c₂ .many .given .1) at (c₃ .mark .ensures a))
-    (omega (arith, c₅ .most-used .ensures, c₄ .if3 .left)) (e ∙ sym d) (omega (arith, a, d))
+    let c₂ = c₁ .before .before .before .before .before .before in
+    let c₃ = c₂ .before .before .before .before in
+    let c₄ = c₃ .before .before .before in
+    let c₅ = c₄ .before .before in
+    let c₆ = c₅ .before in
+    let c₇ = c₆ .before .before .before .before .before .before .before in
+    λ a b d e. sheet-given _ _ _ _ _ (c₁ .put-all .result) _ _ (c₇ .args .kinds .now) (c₇ .args .values .now) _ _ _ _
+    (c₁ .put-all .ensures) (c₂ .number-all .ensures) a (λ i. getD-repeated 1024 i 0)
+    (rw (c₃ .many .given .1) at (c₄ .mark .ensures a))
+    (omega (arith, c₆ .most-used .ensures, c₅ .if3 .left)) (e ∙ sym d) (omega (arith, a, d))
 
 pub untranslate-spec : {M : Type 1} → statement M
 untranslate-spec =
@@ -45,6 +48,10 @@ untranslate-spec =
     (λ c. search needs)
     (λ c. search needs)
     returns-4
+    (λ c. search needs)
+    (λ c. search needs)
+    (λ c κs. search needs)
+    (λ c. search needs)
     (λ c. search needs)
     (λ c. search needs)
     (λ c κs. search needs)

@@ -10,14 +10,14 @@ returns c = search cases depth 16
 
 returns-2 : tie.Need-returns-2
 unfolding gotoRead
-returns-2 c = rw (← c .before .number-at .ensures) (search cases depth 16)
+returns-2 c = rw (← c .before .word-at .ensures) (search cases depth 16)
 
 returns-3 : tie.Need-returns-3
 unfolding gotoRead
 returns-3 c =
     let c₁ = c .before .before .before .before in
     let c₂ = c₁ .before .before .before .before in
-    rw (← c₂ .number-at .ensures, c₁ .put .ensures) (search cases depth 16)
+    rw (← c₂ .word-at .ensures, c₁ .put .ensures) (search cases depth 16)
 
 pub put-goto-spec : {M : Type 1} → statement M
 put-goto-spec =
