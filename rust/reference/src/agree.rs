@@ -1,7 +1,7 @@
 //! A call that reads one text and writes another, held to the rules. The archive makes such calls,
 //! and so does the reference itself, or a copy of it with a mistake.
 
-use crate::{compile, read_back, Refusal, Reply};
+use crate::{object_text, sheet_text, Refusal, Reply};
 use std::collections::{BTreeMap, BTreeSet};
 
 /// Reads a text and writes another to the front of the buffer, as `skimp_compile` and
@@ -12,7 +12,7 @@ pub type Call = fn(&[u8], &mut [u8]) -> Reply;
 #[derive(Clone, Copy)]
 pub struct Rules {
     /// The text that is to be written, or the refusal, if the buffer is not too short.
-    text: fn(&[u8]) -> Result<String, Refusal>,
+    text: fn(&[u8]) -> Result<Vec<u8>, Refusal>,
     /// The number of the refusal of a buffer that is too short.
     too_short: u32,
     /// A buffer of so many bytes takes every text.
@@ -26,9 +26,9 @@ impl Rules {
     /// before.
     fn within<'t>(
         &self,
-        expected: &'t Result<String, Refusal>,
+        expected: &'t Result<Vec<u8>, Refusal>,
         room: usize,
-    ) -> Result<&'t str, Refusal> {
+    ) -> Result<&'t [u8], Refusal> {
         match expected {
             Ok(text) if text.len() <= room => Ok(text),
             Ok(_) => Err(Refusal {
@@ -41,14 +41,14 @@ impl Rules {
 }
 
 pub const COMPILE: Rules = Rules {
-    text: compile,
+    text: object_text,
     too_short: 12,
     most: 18_469,
     behind: b"\n%ENDOFPROGRAM\n\0",
 };
 
 pub const READ_BACK: Rules = Rules {
-    text: read_back,
+    text: sheet_text,
     too_short: 32,
     most: 32_768,
     behind: b"STOP\t-\t0\n\0",
@@ -97,7 +97,7 @@ impl Compared {
     fn compare(
         &mut self,
         input: &[u8],
-        expected: &Result<String, Refusal>,
+        expected: &Result<Vec<u8>, Refusal>,
         room: usize,
     ) -> Result<Outcome, String> {
         let expected = self.rules.within(expected, room);
@@ -111,12 +111,12 @@ impl Compared {
                 value: place,
             },
         };
-        let text = expected.unwrap_or_default().as_bytes();
+        let text = expected.unwrap_or_default();
         let got = self.make_call(input, room);
         let difference = if got != reply {
             Some(format!("replies {got:?}, the rules {reply:?}"))
         } else if !self.has(text) {
-            let written = self.written();
+            let (written, expected) = (self.written(), String::from_utf8_lossy(text));
             Some(format!("writes {written:?}, the rules {expected:?}"))
         } else {
             None
@@ -215,7 +215,7 @@ impl Compared {
         rooms: impl Fn(usize) -> Vec<usize>,
     ) -> usize {
         let expected = (self.rules.text)(input);
-        let length = expected.as_ref().map_or(0, String::len);
+        let length = expected.as_ref().map_or(0, Vec::len);
         let mut too_short = 0;
         for room in rooms(length) {
             let outcome = self.compare(input, &expected, room);

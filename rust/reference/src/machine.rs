@@ -41,7 +41,7 @@ impl State {
             *slot = word(bytes);
         }
         let known = matches!(state.ending, 0..=4 | STOPPED);
-        (known && state.next < object.length).then_some(state)
+        (known && state.next < object.orders.len()).then_some(state)
     }
 
     /// Writes the state over the bytes that it was read from.

@@ -1,6 +1,6 @@
 //! Orders and object text.
 
-use crate::translate::Translation;
+use crate::text::put_number;
 use crate::Refusal;
 
 pub const MOST_VARIABLES: u32 = 64;
@@ -9,6 +9,9 @@ pub const MOST_ORDERS: usize = 1024;
 /// Words 0 and 1 of the frame are the link words, which no order may name.
 pub const LINK_WORDS: u32 = 2;
 pub const MOST_NUMBER: u32 = 2_147_483_647;
+
+/// The most bytes of a record with its newline: four letters, a kind, ten digits and two tabs.
+const MOST_RECORD: usize = 18;
 
 const BAD_HEADER: u32 = 21;
 const BAD_LINE: u32 = 22;
@@ -47,26 +50,42 @@ pub const STOP: Order = Order {
     number: 0,
 };
 
+/// The names as records have them, in the order of `Name`.
+#[rustfmt::skip]
+const NAMES: [&str; 24] = [
+    "LOAD", "ADD", "SUB", "MLT", "DIV", "EXP", "SHL", "SHR", "AND", "OR", "XOR", "CMP",
+    "STR",
+    "JMP", "BE", "BNE", "BLT", "BLE", "BGT", "BGE",
+    "NEG", "NOT", "SEND", "STOP",
+];
+
 impl Order {
-    /// The order's record, without its newline.
-    fn record(self) -> String {
-        let kind = match self.kind {
-            Kind::Word => 'D',
-            Kind::Number => 'K',
-            Kind::Address => 'A',
-            Kind::Nothing => '-',
-        };
-        let name = format!("{:?}", self.name).to_uppercase();
-        format!("{name}\t{kind}\t{}", self.number)
+    /// Puts the order's record and its newline behind a text.
+    fn write(self, text: &mut Vec<u8>) {
+        text.extend_from_slice(NAMES[self.name as usize].as_bytes());
+        text.extend_from_slice(match self.kind {
+            Kind::Word => b"\tD\t",
+            Kind::Number => b"\tK\t",
+            Kind::Address => b"\tA\t",
+            Kind::Nothing => b"\t-\t",
+        });
+        put_number(text, self.number);
+        text.push(b'\n');
     }
 }
 
 /// The text of an object.
-pub fn text(variables: u32, temporaries: u32, orders: &[Order]) -> String {
-    let mut text = format!("BOX\t{variables}\t{temporaries}\t{}\n", orders.len());
+pub fn text(variables: u32, temporaries: u32, orders: &[Order]) -> Vec<u8> {
+    let mut text = Vec::with_capacity(MOST_RECORD * (orders.len() + 1));
+    text.extend_from_slice(b"BOX\t");
+    put_number(&mut text, variables);
+    text.push(b'\t');
+    put_number(&mut text, temporaries);
+    text.push(b'\t');
+    put_number(&mut text, orders.len() as u32);
+    text.push(b'\n');
     for order in orders {
-        text += &order.record();
-        text.push('\n');
+        order.write(&mut text);
     }
     text
 }
@@ -75,10 +94,7 @@ pub fn text(variables: u32, temporaries: u32, orders: &[Order]) -> String {
 pub struct Object {
     pub variables: u32,
     pub temporaries: u32,
-    pub length: usize,
-    /// The orders, then STOP up to the array's end. Its length lets an index be masked, which
-    /// costs less than a test of bounds.
-    pub orders: [Order; MOST_ORDERS],
+    pub orders: Vec<Order>,
 }
 
 impl Object {
@@ -87,37 +103,35 @@ impl Object {
         let (header, mut rest) = line(text).ok_or(refusal(BAD_HEADER, 0))?;
         let sizes = sizes(header).ok_or(refusal(BAD_HEADER, 0))?;
         let (variables, temporaries, length) = sizes;
-        let mut orders = [STOP; MOST_ORDERS];
-        for (place, slot) in orders[..length].iter_mut().enumerate() {
+        let mut orders = Vec::with_capacity(length);
+        for place in 0..length {
             let (record, after) = line(rest).ok_or(refusal(BAD_LINE, place))?;
-            *slot = order(record).ok_or(refusal(BAD_LINE, place))?;
+            orders.push(order(record).ok_or(refusal(BAD_LINE, place))?);
             rest = after;
         }
         if !rest.is_empty() {
             return Err(refusal(BAD_LINE, length));
         }
-        check_operands(&orders[..length], LINK_WORDS + variables + temporaries)?;
-        check_stop(&orders[..length])?;
+        check_operands(&orders, LINK_WORDS + variables + temporaries)?;
+        check_stop(&orders)?;
         Ok(Object {
             variables,
             temporaries,
-            length,
             orders,
         })
+    }
+
+    /// The orders, then STOP up to the array's end. Its length lets an index be masked, which costs
+    /// less than a test of bounds.
+    pub fn padded(&self) -> [Order; MOST_ORDERS] {
+        let mut padded = [STOP; MOST_ORDERS];
+        padded[..self.orders.len()].copy_from_slice(&self.orders);
+        padded
     }
 
     /// How many words the frame has, link words included.
     pub fn words(&self) -> usize {
         (LINK_WORDS + self.variables + self.temporaries) as usize
-    }
-
-    /// The orders as those of a translation, which they may be.
-    pub fn translation(&self) -> Translation {
-        Translation {
-            variables: self.variables,
-            temporaries: self.temporaries,
-            orders: self.orders[..self.length].to_vec(),
-        }
     }
 }
 

@@ -1,8 +1,9 @@
 //! Runs of a translation, held to the meaning of its sheet.
 
+use crate::count::counts;
 use crate::interpret::{Ending, Meaning};
 use crate::sheet::{Instruction, Sheet, OPERATORS, RELATIONS};
-use crate::translate::{counts, Translation};
+use crate::translate::Translation;
 
 /// A program that has not ended is left after so many instructions.
 const MOST_INSTRUCTIONS: usize = 200;

@@ -1,6 +1,6 @@
-//! Sheets: what they are, and their text.
+//! Sheets: what they are.
 
-use std::fmt::Write;
+use crate::compact::Compact;
 
 /// An expression, as levels and brackets part it.
 #[derive(Clone, Debug, PartialEq, Eq)]
@@ -51,25 +51,25 @@ pub const RELATIONS: [(Relation, &str); 6] = [
     (Relation::AtLeast, ">="),
 ];
 
-/// An instruction that may stand after THEN and ELSE.
-#[derive(Clone, Debug, PartialEq, Eq)]
-pub enum Simple {
+/// An instruction that may stand after THEN and ELSE. `E` is what stands for an expression.
+#[derive(Clone, Copy, Debug, PartialEq, Eq)]
+pub enum Simple<E = Expression> {
     /// The word becomes the expression's value.
-    Set(u32, Expression),
-    Send(Expression),
+    Set(u32, E),
+    Send(E),
     /// "s is an instruction's number from 1, or one past the last for the end."
     Goto(u32),
 }
 
-#[derive(Clone, Debug, PartialEq, Eq)]
-pub enum Instruction {
-    Simple(Simple),
+#[derive(Clone, Copy, Debug, PartialEq, Eq)]
+pub enum Instruction<E = Expression> {
+    Simple(Simple<E>),
     If {
         relation: Relation,
-        left: Expression,
-        right: Expression,
-        then: Simple,
-        otherwise: Option<Simple>,
+        left: E,
+        right: E,
+        then: Simple<E>,
+        otherwise: Option<Simple<E>>,
     },
 }
 
@@ -80,121 +80,65 @@ pub struct Sheet {
     pub instructions: Vec<Instruction>,
 }
 
-/// A part of a line of sheet text. IF goes with its relation, SET with its word and GOTO with its
-/// instruction, so that each is two fields of the text.
-#[derive(Clone, Copy, Debug, PartialEq, Eq)]
-pub enum Field {
-    Else,
-    Then,
-    Send,
-    Sign(Sign),
-    Operator(Operator),
-    If(Relation),
-    Word(u32),
-    Constant(u32),
-    Set(u32),
-    Goto(u32),
-}
-
-impl Field {
-    /// Writes the field behind a tab, or two where it is two fields of the text.
-    fn write(self, text: &mut String) {
-        let written = match self {
-            Field::Else => write!(text, "\tELSE"),
-            Field::Then => write!(text, "\tTHEN"),
-            Field::Send => write!(text, "\tSEND"),
-            Field::Sign(sign) => write!(text, "\t{}", SIGNS[sign as usize].1),
-            Field::Operator(operator) => write!(text, "\t{}", OPERATORS[operator as usize].1),
-            Field::If(relation) => write!(text, "\tIF\t{}", RELATIONS[relation as usize].1),
-            Field::Word(word) => write!(text, "\tW{word}"),
-            Field::Constant(constant) => write!(text, "\tK{constant}"),
-            Field::Set(word) => write!(text, "\tSET\t{word}"),
-            Field::Goto(instruction) => write!(text, "\tGOTO\t{instruction}"),
-        };
-        written.expect("a string takes all text");
-    }
-}
-
 impl Expression {
     /// "A variable or constant is plain."
     pub fn is_plain(&self) -> bool {
         matches!(self, Expression::Word(_) | Expression::Constant(_))
     }
+}
 
-    /// "Expressions are in prefix order, a field a node."
-    fn list(&self, fields: &mut Vec<Field>) {
+impl<E> Simple<E> {
+    /// The same with other expressions.
+    fn map<F>(&self, change: &mut impl FnMut(&E) -> F) -> Simple<F> {
         match self {
-            Expression::Word(word) => fields.push(Field::Word(*word)),
-            Expression::Constant(constant) => fields.push(Field::Constant(*constant)),
-            Expression::Unary(sign, operand) => {
-                fields.push(Field::Sign(*sign));
-                operand.list(fields);
-            }
-            Expression::Binary(operator, left, right) => {
-                fields.push(Field::Operator(*operator));
-                left.list(fields);
-                right.list(fields);
-            }
+            Simple::Set(word, value) => Simple::Set(*word, change(value)),
+            Simple::Send(value) => Simple::Send(change(value)),
+            Simple::Goto(instruction) => Simple::Goto(*instruction),
         }
     }
 }
 
-impl Simple {
-    fn list(&self, fields: &mut Vec<Field>) {
+impl<E> Instruction<E> {
+    /// The same with other expressions.
+    pub fn map<F>(&self, mut change: impl FnMut(&E) -> F) -> Instruction<F> {
         match self {
-            Simple::Set(word, value) => {
-                fields.push(Field::Set(*word));
-                value.list(fields);
-            }
-            Simple::Send(value) => {
-                fields.push(Field::Send);
-                value.list(fields);
-            }
-            Simple::Goto(instruction) => fields.push(Field::Goto(*instruction)),
-        }
-    }
-}
-
-impl Instruction {
-    /// The fields of the instruction's line.
-    pub fn fields(&self) -> Vec<Field> {
-        let mut fields = Vec::new();
-        match self {
-            Instruction::Simple(simple) => simple.list(&mut fields),
+            Instruction::Simple(simple) => Instruction::Simple(simple.map(&mut change)),
             Instruction::If {
                 relation,
                 left,
                 right,
                 then,
                 otherwise,
-            } => {
-                fields.push(Field::If(*relation));
-                left.list(&mut fields);
-                right.list(&mut fields);
-                fields.push(Field::Then);
-                then.list(&mut fields);
-                if let Some(otherwise) = otherwise {
-                    fields.push(Field::Else);
-                    otherwise.list(&mut fields);
-                }
-            }
+            } => Instruction::If {
+                relation: *relation,
+                left: change(left),
+                right: change(right),
+                then: then.map(&mut change),
+                otherwise: otherwise.as_ref().map(|it| it.map(&mut change)),
+            },
         }
-        fields
+    }
+
+    /// Where its GOTOs lead, in order of the text.
+    pub fn targets(&mut self) -> impl Iterator<Item = &mut u32> {
+        let (first, second) = match self {
+            Instruction::Simple(simple) => (simple, None),
+            Instruction::If {
+                then, otherwise, ..
+            } => (then, otherwise.as_mut()),
+        };
+        let simples = [Some(first), second].into_iter().flatten();
+        simples.filter_map(|simple| match simple {
+            Simple::Goto(target) => Some(target),
+            _ => None,
+        })
     }
 }
 
 impl Sheet {
     /// The sheet text.
     pub fn text(&self) -> String {
-        let mut text = format!("SHEET\t{}\t{}\n", self.variables, self.instructions.len());
-        for instruction in &self.instructions {
-            let mut line = String::new();
-            for field in instruction.fields() {
-                field.write(&mut line);
-            }
-            text += &line[1..];
-            text.push('\n');
-        }
-        text
+        let text = Compact::of(self).text();
+        String::from_utf8(text).expect("letters, digits and signs")
     }
 }

@@ -2,17 +2,20 @@
 //!
 //! Each part of the reading is a module: `cells` parts bytes into statements of cells, `tokens`
 //! cuts cells into tokens, `grammar` finds the form of a statement, and `program` holds its names,
-//! labels and limits.
+//! labels and limits, with the `tables` of names and labels.
 
 pub mod cells;
 mod grammar;
 mod program;
-pub mod tokens;
+mod tables;
+mod tokens;
 
+use crate::compact::Compact;
 use crate::sheet::Sheet;
 use crate::Refusal;
 use cells::Statements;
-use program::Program;
+use program::{Parts, Program};
+use tokens::Token;
 
 /// "Source is 0 to 16,384 bytes."
 pub const MOST_SOURCE: usize = 16_384;
@@ -38,35 +41,57 @@ fn is_allowed(byte: u8) -> bool {
     byte == b'\n' || (32..=126).contains(&byte)
 }
 
-/// The sheet of a source. "1 comes first, then 2. Then statements in order, skipped ones not
-/// counted, from 1."
+/// The sheet of a source.
 pub fn read(source: &[u8]) -> Result<Sheet, Refusal> {
+    Ok(read_compact(source)?.sheet())
+}
+
+/// The compact sheet of a source. "1 comes first, then 2. Then statements in order, skipped ones
+/// not counted, from 1."
+pub fn read_compact(source: &[u8]) -> Result<Compact, Refusal> {
     if source.len() > MOST_SOURCE {
         return refuse(SOURCE_TOO_LONG, 0);
     }
     if let Some(offset) = source.iter().position(|&byte| !is_allowed(byte)) {
         return refuse(BYTE_NOT_ALLOWED, offset as u32);
     }
-    let mut program = Program::new();
+    let mut reader = Reader {
+        program: Program::new(),
+        tokens: Vec::with_capacity(cells::MOST_CELLS),
+        nodes: Vec::with_capacity(cells::MOST_CELLS),
+    };
+    let mut statements = Statements::new(source);
     let mut number = 0;
-    for statement in Statements::new(source) {
+    while let Some(statement) = statements.read() {
         number += 1;
         let at_end = statement
-            .and_then(|cells| take(&mut program, &cells, number))
+            .and_then(|cells| reader.take(cells, number))
             .or_else(|refusal| refuse(refusal, number))?;
         // "`%ENDOFPROGRAM` ..., after which no more statements are read"
         if at_end {
-            return program.sheet();
+            return reader.program.sheet();
         }
     }
     // "no `%ENDOFPROGRAM`: statements read"
     refuse(NO_END, number)
 }
 
-/// Takes a statement into the program. Gives whether it is `%ENDOFPROGRAM`, or the number of its
-/// refusal: "the first of 5 and 6 from the left; then 7, 8, 9, 11".
-fn take(program: &mut Program, cells: &[cells::Cell], number: u32) -> Result<bool, u32> {
-    let tokens = tokens::cut(cells)?;
-    let statement = grammar::parse(&tokens).ok_or(NO_SUCH_FORM)?;
-    program.take(&statement, number)
+/// A program that is being read, and the tokens and nodes of one statement after the other.
+struct Reader {
+    program: Program,
+    tokens: Vec<Token>,
+    nodes: Vec<grammar::Node>,
+}
+
+impl Reader {
+    /// Takes a statement into the program. Gives whether it is `%ENDOFPROGRAM`, or the number of
+    /// its refusal: "the first of 5 and 6 from the left; then 7, 8, 9, 11".
+    fn take(&mut self, cells: &[u8], number: u32) -> Result<bool, u32> {
+        tokens::cut(cells, &mut self.tokens)?;
+        let statement = grammar::parse(&self.tokens, cells, &mut self.nodes);
+        let statement = statement.ok_or(NO_SUCH_FORM)?;
+        let nodes = &self.nodes;
+        self.program
+            .take(&statement, Parts { cells, nodes }, number)
+    }
 }

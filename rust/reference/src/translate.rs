@@ -1,8 +1,9 @@
 //! The translation of a sheet.
 
+use crate::compact::{Compact, Node, Place};
 use crate::object::{self, Kind, Name, Order, LINK_WORDS, STOP};
 use crate::object::{MOST_ORDERS, MOST_TEMPORARIES, MOST_VARIABLES};
-use crate::sheet::{Expression, Instruction, Operator, Relation, Sheet, Sign, Simple};
+use crate::sheet::{Instruction, Operator, Relation, Sheet, Sign, Simple};
 
 /// What a sheet translates to, or orders that may be such.
 #[derive(Clone, Debug, PartialEq, Eq)]
@@ -16,23 +17,38 @@ pub struct Translation {
 impl Translation {
     /// The object text.
     pub fn text(&self) -> String {
-        object::text(self.variables, self.temporaries, &self.orders)
+        let text = object::text(self.variables, self.temporaries, &self.orders);
+        String::from_utf8(text).expect("letters, digits and signs")
     }
 }
 
 /// The translation, if V, T and N are within their limits.
 pub fn translate(sheet: &Sheet) -> Option<Translation> {
     let translation = without_limits(sheet);
-    let within = translation.variables <= MOST_VARIABLES
+    within_limits(&translation).then_some(translation)
+}
+
+pub fn within_limits(translation: &Translation) -> bool {
+    translation.variables <= MOST_VARIABLES
         && translation.temporaries <= MOST_TEMPORARIES
-        && translation.orders.len() <= MOST_ORDERS;
-    within.then_some(translation)
+        && translation.orders.len() <= MOST_ORDERS
 }
 
 /// The translation of a sheet of any size.
 pub fn without_limits(sheet: &Sheet) -> Translation {
-    let mut writer = Writer::new(sheet.variables);
-    let mut first_orders = Vec::new();
+    translate_compact(&Compact::of(sheet))
+}
+
+/// The translation of a compact sheet of any size.
+pub fn translate_compact(sheet: &Compact) -> Translation {
+    let mut writer = Writer {
+        sheet,
+        first_temporary: LINK_WORDS + sheet.variables,
+        temporaries: 0,
+        orders: Vec::with_capacity(MOST_ORDERS),
+        gotos: Vec::new(),
+    };
+    let mut first_orders = Vec::with_capacity(sheet.instructions.len() + 1);
     for instruction in &sheet.instructions {
         first_orders.push(writer.place());
         writer.instruction(instruction);
@@ -51,14 +67,8 @@ pub fn without_limits(sheet: &Sheet) -> Translation {
     }
 }
 
-/// How many orders an instruction has, and how many temporaries it uses.
-pub fn counts(instruction: &Instruction) -> (u32, u32) {
-    let mut writer = Writer::new(0);
-    writer.instruction(instruction);
-    (writer.place(), writer.temporaries)
-}
-
-struct Writer {
+struct Writer<'s> {
+    sheet: &'s Compact,
     first_temporary: u32,
     /// The most that were used so far.
     temporaries: u32,
@@ -67,16 +77,7 @@ struct Writer {
     gotos: Vec<usize>,
 }
 
-impl Writer {
-    fn new(variables: u32) -> Writer {
-        Writer {
-            first_temporary: LINK_WORDS + variables,
-            temporaries: 0,
-            orders: Vec::new(),
-            gotos: Vec::new(),
-        }
-    }
-
+impl Writer<'_> {
     /// The place of the next order.
     fn place(&self) -> u32 {
         self.orders.len() as u32
@@ -91,6 +92,14 @@ impl Writer {
             name,
             kind: Kind::Word,
             number: word,
+        });
+    }
+
+    fn put_on_constant(&mut self, name: Name, constant: u32) {
+        self.put(Order {
+            name,
+            kind: Kind::Number,
+            number: constant,
         });
     }
 
@@ -124,20 +133,19 @@ impl Writer {
     }
 
     /// An expression with `used` temporaries in use.
-    fn expression(&mut self, expression: &Expression, used: u32) {
-        match expression {
-            Expression::Word(_) | Expression::Constant(_) => {
-                self.put(on_plain(Name::Load, expression).expect("it is plain"));
-            }
-            Expression::Unary(sign, operand) => {
+    fn expression(&mut self, place: Place, used: u32) {
+        match self.sheet.node(place) {
+            Node::Word(word) => self.put_on_word(Name::Load, word),
+            Node::Constant(constant) => self.put_on_constant(Name::Load, constant),
+            Node::Unary(sign, operand) => {
                 self.expression(operand, used);
                 self.put_alone(match sign {
                     Sign::Neg => Name::Neg,
                     Sign::Not => Name::Not,
                 });
             }
-            Expression::Binary(operator, left, right) => {
-                self.binary(name_of(*operator), left, right, used);
+            Node::Binary(operator, left, right) => {
+                self.binary(name_of(operator), left, right, used);
             }
         }
     }
@@ -145,11 +153,12 @@ impl Writer {
     /// "A binary with a plain right operand is the left, then the order on it. Otherwise, with d
     /// temporaries in use: left, STR temporary d, right with d+1 in use, STR temporary d+1, LOAD
     /// temporary d, order on d+1."
-    fn binary(&mut self, name: Name, left: &Expression, right: &Expression, used: u32) {
+    fn binary(&mut self, name: Name, left: Place, right: Place, used: u32) {
         self.expression(left, used);
-        if let Some(order) = on_plain(name, right) {
-            self.put(order);
-            return;
+        match self.sheet.node(right) {
+            Node::Word(word) => return self.put_on_word(name, word),
+            Node::Constant(constant) => return self.put_on_constant(name, constant),
+            _ => {}
         }
         let (first, second) = (self.temporary(used), self.temporary(used + 1));
         self.put_on_word(Name::Str, first);
@@ -159,14 +168,14 @@ impl Writer {
         self.put_on_word(name, second);
     }
 
-    fn simple(&mut self, simple: &Simple) {
+    fn simple(&mut self, simple: &Simple<Place>) {
         match simple {
             Simple::Set(word, value) => {
-                self.expression(value, 0);
+                self.expression(*value, 0);
                 self.put_on_word(Name::Str, *word);
             }
             Simple::Send(value) => {
-                self.expression(value, 0);
+                self.expression(*value, 0);
                 self.put_alone(Name::Send);
             }
             Simple::Goto(instruction) => {
@@ -178,7 +187,7 @@ impl Writer {
 
     /// "A comparison is the same with CMP, then the branch of the opposite relation past u. With
     /// ELSE, a JMP over the second u closes the first."
-    fn instruction(&mut self, instruction: &Instruction) {
+    fn instruction(&mut self, instruction: &Instruction<Place>) {
         match instruction {
             Instruction::Simple(simple) => self.simple(simple),
             Instruction::If {
@@ -188,7 +197,7 @@ impl Writer {
                 then,
                 otherwise,
             } => {
-                self.binary(Name::Cmp, left, right, 0);
+                self.binary(Name::Cmp, *left, *right, 0);
                 let branch = self.put_jump(opposite(*relation), 0);
                 self.simple(then);
                 if let Some(otherwise) = otherwise {
@@ -202,16 +211,6 @@ impl Writer {
             }
         }
     }
-}
-
-/// The order on a variable or constant.
-fn on_plain(name: Name, operand: &Expression) -> Option<Order> {
-    let (kind, number) = match operand {
-        Expression::Word(word) => (Kind::Word, *word),
-        Expression::Constant(constant) => (Kind::Number, *constant),
-        _ => return None,
-    };
-    Some(Order { name, kind, number })
 }
 
 fn name_of(operator: Operator) -> Name {

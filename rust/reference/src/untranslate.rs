@@ -5,60 +5,71 @@
 //! a comparison gives it away. Orders that no sheet translates to may get through this, so the
 //! sheet that comes out is translated again and must give the same.
 
-use std::collections::BTreeMap;
-
-use crate::object::{Kind, Name, Order, LINK_WORDS, MOST_NUMBER};
-use crate::sheet::{Expression, Instruction, Operator, Relation, Sheet, Sign, Simple};
-use crate::translate::{translate, Translation};
+use crate::compact::{Compact, Node, Place};
+use crate::object::{Kind, Name, Order, LINK_WORDS, MOST_NUMBER, MOST_TEMPORARIES};
+use crate::sheet::{Instruction, Operator, Relation, Sheet, Sign, Simple};
+use crate::translate::{translate_compact, within_limits, Translation};
 
 /// The one sheet whose translation this is, if there is one.
 pub fn untranslate(translation: &Translation) -> Option<Sheet> {
-    let sheet = candidate(translation)?;
-    (translate(&sheet).as_ref() == Some(translation)).then_some(sheet)
+    let sizes = [translation.variables, translation.temporaries];
+    let sheet = untranslate_compact(sizes, &translation.orders)?;
+    Some(sheet.sheet())
+}
+
+/// The same as a compact sheet, from V, T and the orders.
+pub fn untranslate_compact(
+    [variables, temporaries]: [u32; 2],
+    orders: &[Order],
+) -> Option<Compact> {
+    let sheet = candidate(variables, orders)?;
+    let again = translate_compact(&sheet);
+    let is_same = again.temporaries == temporaries && again.orders == orders;
+    (is_same && within_limits(&again)).then_some(sheet)
 }
 
 /// The only sheet that comes into question.
-fn candidate(translation: &Translation) -> Option<Sheet> {
+fn candidate(variables: u32, orders: &[Order]) -> Option<Compact> {
     let mut reader = Reader {
-        first_temporary: LINK_WORDS + translation.variables,
-        orders: &translation.orders,
+        first_temporary: LINK_WORDS + variables,
+        orders,
         place: 0,
+        sheet: Compact::new(variables),
     };
-    let last = translation.orders.len().checked_sub(1)?;
-    let mut first_orders = Vec::new();
-    let mut instructions = Vec::new();
+    reader.sheet.nodes.reserve(orders.len());
+    let last = orders.len().checked_sub(1)?;
+    // the number of the instruction whose first order it is, or 0
+    let mut numbers = vec![0; orders.len()];
     while reader.place < last {
-        first_orders.push(reader.place as u32);
-        instructions.push(reader.instruction()?);
+        numbers[reader.place] = reader.sheet.instructions.len() as u32 + 1;
+        let instruction = reader.instruction()?;
+        reader.sheet.instructions.push(instruction);
     }
-    first_orders.push(last as u32);
-    for instruction in &mut instructions {
-        let (first, second) = match instruction {
-            Instruction::Simple(simple) => (simple, None),
-            Instruction::If {
-                then, otherwise, ..
-            } => (then, otherwise.as_mut()),
-        };
-        for simple in [Some(first), second].into_iter().flatten() {
-            if let Simple::Goto(target) = simple {
-                *target = first_orders.binary_search(target).ok()? as u32 + 1;
-            }
+    let mut sheet = reader.sheet;
+    numbers[last] = sheet.instructions.len() as u32 + 1;
+    lead(&mut sheet, &numbers)?;
+    Some(sheet)
+}
+
+/// Puts instructions' numbers in place of the orders that the GOTOs lead to.
+fn lead(sheet: &mut Compact, numbers: &[u32]) -> Option<()> {
+    for target in sheet.instructions.iter_mut().flat_map(Instruction::targets) {
+        *target = *numbers.get(*target as usize)?;
+        if *target == 0 {
+            return None;
         }
     }
-    Some(Sheet {
-        variables: translation.variables,
-        instructions,
-    })
+    Some(())
 }
 
 /// What orders have been worked out for once one ends it.
 enum Part {
     /// A GOTO has an order's place for now.
-    Simple(Simple),
+    Simple(Simple<Place>),
     Comparison {
         relation: Relation,
-        left: Expression,
-        right: Expression,
+        left: Place,
+        right: Place,
         /// Where the branch leads.
         past: usize,
     },
@@ -68,10 +79,12 @@ struct Reader<'a> {
     first_temporary: u32,
     orders: &'a [Order],
     place: usize,
+    /// As far as it has been read.
+    sheet: Compact,
 }
 
 impl Reader<'_> {
-    fn instruction(&mut self) -> Option<Instruction> {
+    fn instruction(&mut self) -> Option<Instruction<Place>> {
         let (relation, left, right, past) = match self.part()? {
             Part::Simple(simple) => return Some(Instruction::Simple(simple)),
             Part::Comparison {
@@ -99,7 +112,7 @@ impl Reader<'_> {
         })
     }
 
-    fn simple(&mut self) -> Option<Simple> {
+    fn simple(&mut self) -> Option<Simple<Place>> {
         match self.part()? {
             Part::Simple(simple) => Some(simple),
             Part::Comparison { .. } => None,
@@ -108,19 +121,16 @@ impl Reader<'_> {
 
     /// Carries out orders up to the one that ends a simple instruction or a comparison.
     fn part(&mut self) -> Option<Part> {
-        let mut held = Held {
-            accumulator: None,
-            temporaries: BTreeMap::new(),
-            compared: None,
-        };
+        let mut held = Held::default();
         loop {
             let order = *self.orders.get(self.place)?;
             self.place += 1;
             match order.name {
                 Name::Load => held.accumulator = Some(self.operand(order, &mut held)?),
                 Name::Str if order.number >= self.first_temporary => {
+                    let temporary = (order.number - self.first_temporary) as usize;
                     let value = held.accumulator.take()?;
-                    held.temporaries.insert(order.number, value);
+                    *held.temporaries.get_mut(temporary)? = Some(value);
                 }
                 Name::Str if order.number < LINK_WORDS => return None,
                 Name::Str => {
@@ -128,8 +138,8 @@ impl Reader<'_> {
                 }
                 Name::Send => return Some(Part::Simple(Simple::Send(held.accumulator?))),
                 Name::Jmp => return Some(Part::Simple(Simple::Goto(order.number))),
-                Name::Neg => held.unary(Sign::Neg)?,
-                Name::Not => held.unary(Sign::Not)?,
+                Name::Neg => self.unary(Sign::Neg, &mut held)?,
+                Name::Not => self.unary(Sign::Not, &mut held)?,
                 Name::Cmp => {
                     let right = self.operand(order, &mut held)?;
                     held.compared = Some((held.accumulator.take()?, right));
@@ -146,47 +156,47 @@ impl Reader<'_> {
                         });
                     }
                     let right = self.operand(order, &mut held)?;
-                    held.binary(operator_of(name)?, right)?;
+                    self.binary(operator_of(name)?, right, &mut held)?;
                 }
             }
         }
     }
 
     /// What an order works on: a constant, a variable, or what a temporary holds.
-    fn operand(&self, order: Order, held: &mut Held) -> Option<Expression> {
+    fn operand(&mut self, order: Order, held: &mut Held) -> Option<Place> {
         match (order.kind, order.number) {
             (Kind::Number, constant) if constant <= MOST_NUMBER => {
-                Some(Expression::Constant(constant))
+                Some(self.sheet.put(Node::Constant(constant)))
             }
-            (Kind::Word, word) if word >= self.first_temporary => held.temporaries.remove(&word),
-            (Kind::Word, word) if word >= LINK_WORDS => Some(Expression::Word(word)),
+            (Kind::Word, word) if word >= self.first_temporary => {
+                let temporary = (word - self.first_temporary) as usize;
+                held.temporaries.get_mut(temporary)?.take()
+            }
+            (Kind::Word, word) if word >= LINK_WORDS => Some(self.sheet.put(Node::Word(word))),
             _ => None,
         }
     }
+
+    fn unary(&mut self, sign: Sign, held: &mut Held) -> Option<()> {
+        let operand = held.accumulator?;
+        held.accumulator = Some(self.sheet.put(Node::Unary(sign, operand)));
+        Some(())
+    }
+
+    fn binary(&mut self, operator: Operator, right: Place, held: &mut Held) -> Option<()> {
+        let left = held.accumulator?;
+        held.accumulator = Some(self.sheet.put(Node::Binary(operator, left, right)));
+        Some(())
+    }
 }
 
-/// The expressions in place of the machine's values.
+/// The expressions in place of the machine's values, by the places of their nodes.
+#[derive(Default)]
 struct Held {
-    accumulator: Option<Expression>,
-    /// By their words.
-    temporaries: BTreeMap<u32, Expression>,
+    accumulator: Option<Place>,
+    temporaries: [Option<Place>; MOST_TEMPORARIES as usize],
     /// What a CMP has compared.
-    compared: Option<(Expression, Expression)>,
-}
-
-impl Held {
-    fn unary(&mut self, sign: Sign) -> Option<()> {
-        let operand = self.accumulator.take()?;
-        self.accumulator = Some(Expression::Unary(sign, Box::new(operand)));
-        Some(())
-    }
-
-    fn binary(&mut self, operator: Operator, right: Expression) -> Option<()> {
-        let left = self.accumulator.take()?;
-        let binary = Expression::Binary(operator, Box::new(left), Box::new(right));
-        self.accumulator = Some(binary);
-        Some(())
-    }
+    compared: Option<(Place, Place)>,
 }
 
 fn operator_of(name: Name) -> Option<Operator> {

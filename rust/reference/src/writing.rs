@@ -8,6 +8,7 @@ pub mod limits;
 pub mod program;
 pub mod soup;
 pub mod spelling;
+pub mod token;
 
 use crate::generate::Plan;
 use crate::random::Random;

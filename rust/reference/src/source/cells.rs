@@ -5,49 +5,21 @@ use super::{SOURCE_ENDS_EARLY, TOO_MANY_CELLS};
 /// "A statement may hold 256 cells at any moment, its end mark included."
 pub const MOST_CELLS: usize = 256;
 
-/// "Each byte kept is a cell, quotes included."
-#[derive(Clone, Copy, Debug, PartialEq, Eq)]
-pub struct Cell {
-    pub byte: u8,
-    /// Whether `%` marked it as a keyword letter.
-    pub is_keyword: bool,
-}
+/// "Each byte kept is a cell, quotes included." This bit, which no allowed byte has, marks a
+/// keyword letter.
+pub const KEYWORD: u8 = 128;
 
-/// The statements of a source in order, without those of nothing. An error is the number of the
-/// refusal of the statement that was being read.
+/// The statements of a source in order, without those of nothing.
 pub struct Statements<'s> {
     source: &'s [u8],
     /// The place of the next byte; the source's length for the newline its end counts as.
     place: usize,
-}
-
-impl<'s> Statements<'s> {
-    pub fn new(source: &'s [u8]) -> Statements<'s> {
-        Statements { source, place: 0 }
-    }
-}
-
-impl Iterator for Statements<'_> {
-    type Item = Result<Vec<Cell>, u32>;
-
-    fn next(&mut self) -> Option<Self::Item> {
-        let mut statement = Statement::default();
-        while self.place <= self.source.len() {
-            let taken = match self.source.get(self.place) {
-                Some(&byte) => statement.take(byte),
-                None => statement.take_end(),
-            };
-            self.place += 1;
-            match taken {
-                Err(refusal) => return Some(Err(refusal)),
-                // "a statement of nothing is skipped"
-                Ok(Taken::End) if !statement.cells.is_empty() => return Some(Ok(statement.cells)),
-                Ok(Taken::End) => statement = Statement::default(),
-                Ok(Taken::More) => {}
-            }
-        }
-        None
-    }
+    /// The statement as far as it has been read.
+    cells: [u8; MOST_CELLS],
+    length: usize,
+    /// Only letters have come since a `%`.
+    shifted: bool,
+    quoted: bool,
 }
 
 /// Whether a byte ended the statement.
@@ -56,29 +28,43 @@ enum Taken {
     End,
 }
 
-/// A statement as far as it has been read.
-#[derive(Default)]
-struct Statement {
-    cells: Vec<Cell>,
-    /// Only letters have come since a `%`.
-    shifted: bool,
-    quoted: bool,
-    in_comment: bool,
-}
+impl<'s> Statements<'s> {
+    pub fn new(source: &'s [u8]) -> Statements<'s> {
+        Statements {
+            source,
+            place: 0,
+            cells: [0; MOST_CELLS],
+            length: 0,
+            shifted: false,
+            quoted: false,
+        }
+    }
 
-impl Statement {
-    fn take(&mut self, byte: u8) -> Result<Taken, u32> {
-        if self.in_comment {
-            // "swallows all through the next `;` or newline"
-            self.in_comment = byte != b';' && byte != b'\n';
-            return Ok(Taken::More);
+    /// The cells of the next statement, or the number of its refusal. Nothing is to be read behind
+    /// a refusal.
+    pub fn read(&mut self) -> Option<Result<&[u8], u32>> {
+        self.length = 0;
+        while self.place <= self.source.len() {
+            let taken = match self.source.get(self.place) {
+                Some(&byte) if self.quoted => self.take_quoted(byte),
+                Some(&byte) => self.take_unquoted(byte),
+                None => self.take_end(),
+            };
+            self.place += 1;
+            match taken {
+                Err(refusal) => return Some(Err(refusal)),
+                // "a statement of nothing is skipped"
+                Ok(Taken::End) if self.length > 0 => return Some(Ok(&self.cells[..self.length])),
+                Ok(_) => {}
+            }
         }
-        if self.quoted {
-            // "Text between quotes stays as typed."
-            self.quoted = byte != b'\'';
-            return self.keep(byte, false);
-        }
-        self.take_unquoted(byte)
+        None
+    }
+
+    /// "Text between quotes stays as typed."
+    fn take_quoted(&mut self, byte: u8) -> Result<Taken, u32> {
+        self.quoted = byte != b'\'';
+        self.keep(byte)
     }
 
     fn take_unquoted(&mut self, byte: u8) -> Result<Taken, u32> {
@@ -89,15 +75,15 @@ impl Statement {
             // "`%` is not kept"; "Spaces outside quotes vanish."
             b'%' | b' ' => Ok(Taken::More),
             // "`!` where no cell of the statement is held yet starts a comment"
-            b'!' if self.cells.is_empty() => {
-                self.in_comment = true;
+            b'!' if self.length == 0 => {
+                self.skip_comment();
                 Ok(Taken::More)
             }
             // "A newline outside quotes, when the last cell held is a keyword letter C, is dropped
             // with that C, and the statement goes on."
             b'\n' if self.ends_in_continuation() => {
                 self.find_room()?;
-                self.cells.pop();
+                self.length -= 1;
                 Ok(Taken::More)
             }
             b'\n' | b';' => {
@@ -107,9 +93,18 @@ impl Statement {
             _ => {
                 self.quoted = byte == b'\'';
                 // "Outside quotes a to z become capitals."
-                self.keep(byte.to_ascii_uppercase(), is_keyword)
+                let mark = if is_keyword { KEYWORD } else { 0 };
+                self.keep(byte.to_ascii_uppercase() | mark)
             }
         }
+    }
+
+    /// Goes on to the byte that ends a comment, which "swallows all through the next `;` or
+    /// newline".
+    fn skip_comment(&mut self) {
+        let rest = &self.source[self.place..];
+        let end = rest.iter().position(|&byte| byte == b';' || byte == b'\n');
+        self.place += end.unwrap_or(rest.len());
     }
 
     /// "The end of the source counts as one newline." But it does not finish quotes, and a C asks
@@ -118,29 +113,26 @@ impl Statement {
         if self.quoted || self.ends_in_continuation() {
             return Err(SOURCE_ENDS_EARLY);
         }
-        self.take(b'\n')
+        self.take_unquoted(b'\n')
     }
 
     fn ends_in_continuation(&self) -> bool {
-        let c = Cell {
-            byte: b'C',
-            is_keyword: true,
-        };
-        self.cells.last() == Some(&c)
+        self.cells[..self.length].last() == Some(&(b'C' | KEYWORD))
     }
 
-    fn keep(&mut self, byte: u8, is_keyword: bool) -> Result<Taken, u32> {
+    fn keep(&mut self, cell: u8) -> Result<Taken, u32> {
         self.find_room()?;
-        self.cells.push(Cell { byte, is_keyword });
+        self.cells[self.length] = cell;
+        self.length += 1;
         Ok(Taken::More)
     }
 
     /// Refuses the statement unless one more cell fits. The end mark takes a cell, and so does a
     /// newline before it is dropped with its C.
     fn find_room(&self) -> Result<(), u32> {
-        if self.cells.len() == MOST_CELLS {
-            return Err(TOO_MANY_CELLS);
+        match self.length {
+            MOST_CELLS.. => Err(TOO_MANY_CELLS),
+            _ => Ok(()),
         }
-        Ok(())
     }
 }

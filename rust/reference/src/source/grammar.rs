@@ -1,44 +1,44 @@
 //! The form of a statement.
 
-use super::tokens::Token;
-use crate::sheet::{Operator, Relation, Sign, OPERATORS, RELATIONS};
+use super::tokens::{Name, Token};
+use crate::compact::Place;
+use crate::sheet::{Operator, Relation, Sign};
 
 /// A statement, its names and labels as they are written.
-#[derive(Clone, Debug, PartialEq, Eq)]
-pub enum Statement {
+pub enum Statement<'t> {
     Begin,
-    Integer(Vec<String>),
-    /// An instruction with the labels before it, or labels alone.
-    Labelled(Vec<u32>, Option<Instruction>),
+    /// The names, parted by commas.
+    Integer(&'t [Token]),
+    /// The labels, each with its colon, and the instruction behind them if there is one.
+    Labelled(&'t [Token], Option<Instruction>),
     EndOfProgram,
 }
 
-#[derive(Clone, Debug, PartialEq, Eq)]
 pub enum Instruction {
     Simple(Simple),
     If {
         relation: Relation,
-        left: Expression,
-        right: Expression,
+        left: Place,
+        right: Place,
         then: Simple,
         otherwise: Option<Simple>,
     },
 }
 
 /// An instruction that may stand after `%THEN` and `%ELSE`.
-#[derive(Clone, Debug, PartialEq, Eq)]
 pub enum Simple {
-    Assignment(String, Expression),
-    Send(Expression),
+    Assignment(Name, Place),
+    Send(Place),
     Jump(u32),
 }
 
-#[derive(Clone, Debug, PartialEq, Eq)]
-pub enum Expression {
-    Name(String),
+/// A node of an expression, its operands by their places in the list of the statement's nodes.
+#[derive(Clone, Copy)]
+pub enum Node {
+    Name(Name),
     Constant(u32),
-    Unary(Sign, Box<Expression>),
-    Binary(Operator, Box<Expression>, Box<Expression>),
+    Unary(Sign, Place),
+    Binary(Operator, Place, Place),
 }
 
 /// The level of `+ - ! !!`, and of a leading minus.
@@ -54,30 +54,42 @@ fn level(operator: Operator) -> u32 {
     }
 }
 
-/// The statement that the tokens are, if they are of a form.
-pub fn parse(tokens: &[Token]) -> Option<Statement> {
-    let mut parser = Parser { rest: tokens };
+/// The statement that the tokens are, if they are of a form. The nodes of its expressions take the
+/// place of those that are in the list.
+pub fn parse<'t>(
+    tokens: &'t [Token],
+    cells: &[u8],
+    nodes: &mut Vec<Node>,
+) -> Option<Statement<'t>> {
+    nodes.clear();
+    let mut parser = Parser {
+        rest: tokens,
+        cells,
+        nodes,
+    };
     let statement = parser.statement()?;
     parser.rest.is_empty().then_some(statement)
 }
 
 /// The tokens that are left. Each part of the form takes its own from the front.
-struct Parser<'t> {
+struct Parser<'t, 's> {
     rest: &'t [Token],
+    cells: &'s [u8],
+    nodes: &'s mut Vec<Node>,
 }
 
-impl Parser<'_> {
-    fn statement(&mut self) -> Option<Statement> {
+impl<'t> Parser<'t, '_> {
+    fn statement(&mut self) -> Option<Statement<'t>> {
         let labels = self.labels();
         // a labelled `%BEGIN`, `%INTEGER` or `%ENDOFPROGRAM` has no form
         if labels.is_empty() {
-            if self.take_keyword("BEGIN") {
+            if self.take(Token::Begin) {
                 return Some(Statement::Begin);
             }
-            if self.take_keyword("INTEGER") {
+            if self.take(Token::Integer) {
                 return Some(Statement::Integer(self.name_list()?));
             }
-            if self.take_keyword("ENDOFPROGRAM") {
+            if self.take(Token::EndOfProgram) {
                 return Some(Statement::EndOfProgram);
             }
         }
@@ -89,37 +101,37 @@ impl Parser<'_> {
         Some(Statement::Labelled(labels, Some(instruction)))
     }
 
-    fn labels(&mut self) -> Vec<u32> {
-        let mut labels = Vec::new();
-        while let [Token::Decimal(label), Token::Symbol(":"), rest @ ..] = self.rest {
-            labels.push(*label);
+    fn labels(&mut self) -> &'t [Token] {
+        let tokens = self.rest;
+        while let [Token::Decimal(_), Token::Colon, rest @ ..] = self.rest {
             self.rest = rest;
         }
-        labels
+        &tokens[..tokens.len() - self.rest.len()]
     }
 
     /// "%INTEGER <NAME>, <NAME>, <NAME>, . . ."
-    fn name_list(&mut self) -> Option<Vec<String>> {
-        let mut names = vec![self.name()?];
-        while self.take_symbol(",") {
-            names.push(self.name()?);
+    fn name_list(&mut self) -> Option<&'t [Token]> {
+        let tokens = self.rest;
+        self.name()?;
+        while self.take(Token::Comma) {
+            self.name()?;
         }
-        Some(names)
+        Some(&tokens[..tokens.len() - self.rest.len()])
     }
 
     /// A simple instruction, or "`%IF expr rel expr %THEN u` with an optional `%ELSE u`".
     fn instruction(&mut self) -> Option<Instruction> {
-        if !self.take_keyword("IF") {
+        if !self.take(Token::If) {
             return Some(Instruction::Simple(self.simple()?));
         }
         let left = self.expression()?;
         let relation = self.relation()?;
         let right = self.expression()?;
-        if !self.take_keyword("THEN") {
+        if !self.take(Token::Then) {
             return None;
         }
         let then = self.simple()?;
-        let otherwise = match self.take_keyword("ELSE") {
+        let otherwise = match self.take(Token::Else) {
             true => Some(self.simple()?),
             false => None,
         };
@@ -134,38 +146,42 @@ impl Parser<'_> {
 
     /// "`name = expr`, `SEND(expr)`, `->label`"
     fn simple(&mut self) -> Option<Simple> {
-        if self.take_symbol("->") {
+        if self.take(Token::Arrow) {
             return Some(Simple::Jump(self.decimal()?));
         }
         let name = self.name()?;
-        if self.take_symbol("=") {
+        if self.take(Token::Relation(Relation::Equal)) {
             return Some(Simple::Assignment(name, self.expression()?));
         }
         // only SEND takes brackets
-        if name == "SEND" && self.take_symbol("(") {
+        if name.letters(self.cells) == b"SEND" && self.take(Token::Open) {
             let value = self.expression()?;
-            return self.take_symbol(")").then_some(Simple::Send(value));
+            return self.take(Token::Close).then_some(Simple::Send(value));
         }
         None
     }
 
     fn relation(&mut self) -> Option<Relation> {
-        let (relation, _) = RELATIONS.iter().find(|(_, sign)| self.take_symbol(sign))?;
+        let (Token::Relation(relation), rest) = self.rest.split_first()? else {
+            return None;
+        };
+        self.rest = rest;
         Some(*relation)
     }
 
     /// "An expression may begin with one `+`, `-` or `\`, also inside brackets, nowhere else."
-    fn expression(&mut self) -> Option<Expression> {
-        let first = if self.take_symbol("\\") {
-            Expression::Unary(Sign::Not, Box::new(self.operand()?))
-        } else if self.take_symbol("-") {
+    fn expression(&mut self) -> Option<Place> {
+        let first = if self.take(Token::Not) {
+            let operand = self.operand()?;
+            self.put(Node::Unary(Sign::Not, operand))
+        } else if self.take(Token::Operator(Operator::Sub)) {
             // "A leading minus has the lowest level": what binds closer belongs to its operand
             let operand = self.operand()?;
             let operand = self.operations(operand, LOWEST + 1)?;
-            Expression::Unary(Sign::Neg, Box::new(operand))
+            self.put(Node::Unary(Sign::Neg, operand))
         } else {
             // "a leading plus left out"
-            self.take_symbol("+");
+            self.take(Token::Operator(Operator::Add));
             self.operand()?
         };
         self.operations(first, LOWEST)
@@ -173,47 +189,53 @@ impl Parser<'_> {
 
     /// Goes on from a left operand with operators of at least some level. "Equal levels go left to
     /// right": the right operand takes only operators of a higher level.
-    fn operations(&mut self, left: Expression, least: u32) -> Option<Expression> {
+    fn operations(&mut self, left: Place, least: u32) -> Option<Place> {
         let mut left = left;
         while let Some(operator) = self.take_operator(least) {
             let right = self.operand()?;
             let right = self.operations(right, level(operator) + 1)?;
-            left = Expression::Binary(operator, Box::new(left), Box::new(right));
+            left = self.put(Node::Binary(operator, left, right));
         }
         Some(left)
     }
 
     fn take_operator(&mut self, least: u32) -> Option<Operator> {
-        let allowed = OPERATORS
-            .iter()
-            .filter(|(operator, _)| level(*operator) >= least);
-        let (operator, _) = allowed
-            .into_iter()
-            .find(|(_, sign)| self.take_symbol(sign))?;
-        Some(*operator)
+        match self.rest.split_first() {
+            Some((Token::Operator(operator), rest)) if level(*operator) >= least => {
+                self.rest = rest;
+                Some(*operator)
+            }
+            _ => None,
+        }
     }
 
-    fn operand(&mut self) -> Option<Expression> {
-        if self.take_symbol("(") {
-            let inner = self.expression()?;
-            return self.take_symbol(")").then_some(inner);
-        }
+    fn operand(&mut self) -> Option<Place> {
         let (first, rest) = self.rest.split_first()?;
-        let operand = match first {
-            Token::Name(name) => Expression::Name(name.clone()),
-            Token::Decimal(value) | Token::Quoted(value) => Expression::Constant(*value),
+        self.rest = rest;
+        let node = match first {
+            Token::Open => {
+                let inner = self.expression()?;
+                return self.take(Token::Close).then_some(inner);
+            }
+            Token::Name(name) => Node::Name(*name),
+            Token::Decimal(value) | Token::Quoted(value) => Node::Constant(*value),
             _ => return None,
         };
-        self.rest = rest;
-        Some(operand)
+        Some(self.put(node))
     }
 
-    fn name(&mut self) -> Option<String> {
+    /// Adds a node, and gives its place.
+    fn put(&mut self, node: Node) -> Place {
+        self.nodes.push(node);
+        self.nodes.len() as Place - 1
+    }
+
+    fn name(&mut self) -> Option<Name> {
         let (Token::Name(name), rest) = self.rest.split_first()? else {
             return None;
         };
         self.rest = rest;
-        Some(name.clone())
+        Some(*name)
     }
 
     fn decimal(&mut self) -> Option<u32> {
@@ -224,19 +246,10 @@ impl Parser<'_> {
         Some(*value)
     }
 
-    /// Takes the next token if it is this keyword.
-    fn take_keyword(&mut self, keyword: &str) -> bool {
-        self.take(|token| matches!(token, Token::Keyword(next) if *next == keyword))
-    }
-
-    /// Takes the next token if it is this symbol.
-    fn take_symbol(&mut self, symbol: &str) -> bool {
-        self.take(|token| matches!(token, Token::Symbol(next) if *next == symbol))
-    }
-
-    fn take(&mut self, test: impl Fn(&Token) -> bool) -> bool {
+    /// Takes the next token if it is this one.
+    fn take(&mut self, token: Token) -> bool {
         match self.rest.split_first() {
-            Some((token, rest)) if test(token) => {
+            Some((next, rest)) if *next == token => {
                 self.rest = rest;
                 true
             }

@@ -1,12 +1,13 @@
 //! The statements of a program in order: names, labels and limits.
 
-use super::grammar::{Expression, Instruction, Simple, Statement};
+use super::grammar::{Instruction, Node, Simple, Statement};
+use super::tables::{Labels, Variables};
+use super::tokens::{Name, Token};
 use super::{refuse, LABEL_MISUSED, NAME_MISUSED, NO_SUCH_FORM, OVER_LIMIT};
-use crate::object::{LINK_WORDS, MOST_ORDERS, MOST_TEMPORARIES, MOST_VARIABLES};
-use crate::sheet::{self, Sheet};
-use crate::translate::counts;
+use crate::compact::{self, Compact, Place};
+use crate::object::{MOST_ORDERS, MOST_TEMPORARIES, MOST_VARIABLES};
+use crate::sheet;
 use crate::Refusal;
-use std::collections::BTreeMap;
 
 /// "Labels are decimal, 1 to 9999."
 const MOST_LABEL: u32 = 9999;
@@ -23,43 +24,48 @@ enum Part {
 /// A program as far as its statements have been taken.
 pub struct Program {
     part: Part,
-    variables: Vec<String>,
-    /// Each set label with the number of the instruction after it.
-    labels: BTreeMap<u32, u32>,
-    /// The labels of the jumps, in order of the text, with their statements.
-    jumps: Vec<(u32, u32)>,
+    variables: Variables,
+    labels: Labels,
+    /// The statements of the jumps, in order of the text.
+    jumps: Vec<u32>,
     /// Each GOTO has its label in place of an instruction's number.
-    instructions: Vec<sheet::Instruction>,
+    sheet: Compact,
     /// Those of the instructions, without STOP.
     orders: u32,
+}
+
+/// What a statement's names and nodes are looked up in.
+#[derive(Clone, Copy)]
+pub struct Parts<'s> {
+    pub cells: &'s [u8],
+    pub nodes: &'s [Node],
 }
 
 impl Program {
     pub fn new() -> Program {
         Program {
             part: Part::Nothing,
-            variables: Vec::new(),
-            labels: BTreeMap::new(),
+            variables: Variables::default(),
+            labels: Labels::default(),
             jumps: Vec::new(),
-            instructions: Vec::new(),
+            sheet: Compact::new(0),
             orders: 0,
         }
     }
 
     /// Takes a statement by its number, from 1. Gives whether it is `%ENDOFPROGRAM`, or the number
     /// of its refusal.
-    pub fn take(&mut self, statement: &Statement, number: u32) -> Result<bool, u32> {
+    pub fn take(&mut self, statement: &Statement, parts: Parts, number: u32) -> Result<bool, u32> {
         self.part = self.next_part(statement).ok_or(NO_SUCH_FORM)?;
         match statement {
             Statement::Begin => {}
-            Statement::Integer(names) => self.declare(names)?,
+            Statement::Integer(names) => self.declare(names, parts.cells)?,
             Statement::Labelled(labels, instruction) => {
                 let instruction = instruction.as_ref();
-                let resolved = instruction.map(|it| self.instruction(it)).transpose()?;
+                let resolved = instruction.map(|it| self.instruction(it, parts));
+                let resolved = resolved.transpose()?;
                 self.set_labels(labels)?;
-                let jumps = instruction.map(jumps).unwrap_or_default();
-                self.note_jumps(&jumps, number)?;
-                self.hold_limits(resolved)?;
+                self.hold(resolved, number)?;
             }
             Statement::EndOfProgram => return Ok(true),
         }
@@ -79,54 +85,62 @@ impl Program {
     }
 
     /// 8 comes before 11 in a statement, so all names are looked at before they are counted.
-    fn declare(&mut self, names: &[String]) -> Result<(), u32> {
-        for name in names {
+    fn declare(&mut self, names: &[Token], cells: &[u8]) -> Result<(), u32> {
+        for token in names {
+            let Token::Name(name) = token else { continue };
+            let name = name.letters(cells);
             // "SEND cannot be declared or used as a variable."
-            if name == "SEND" || self.variables.contains(name) {
+            if name == b"SEND" || !self.variables.declare(name) {
                 return Err(NAME_MISUSED);
             }
-            self.variables.push(name.clone());
         }
-        if self.variables.len() > MOST_VARIABLES as usize {
+        if self.variables.count() > MOST_VARIABLES {
             return Err(OVER_LIMIT);
         }
         Ok(())
     }
 
     /// The word of a variable. SEND is never declared.
-    fn word(&self, name: &str) -> Result<u32, u32> {
-        let place = self.variables.iter().position(|variable| variable == name);
-        let place = place.ok_or(NAME_MISUSED)?;
-        Ok(LINK_WORDS + place as u32)
+    fn word(&self, name: Name, cells: &[u8]) -> Result<u32, u32> {
+        self.variables.word(name.letters(cells)).ok_or(NAME_MISUSED)
     }
 
-    fn expression(&self, expression: &Expression) -> Result<sheet::Expression, u32> {
-        Ok(match expression {
-            Expression::Name(name) => sheet::Expression::Word(self.word(name)?),
-            Expression::Constant(value) => sheet::Expression::Constant(*value),
-            Expression::Unary(sign, operand) => {
-                sheet::Expression::Unary(*sign, Box::new(self.expression(operand)?))
-            }
-            Expression::Binary(operator, left, right) => {
-                let (left, right) = (self.expression(left)?, self.expression(right)?);
-                sheet::Expression::Binary(*operator, Box::new(left), Box::new(right))
-            }
-        })
+    /// Adds the statement's nodes behind those of the program, with words for names.
+    fn add_nodes(&mut self, parts: Parts) -> Result<(), u32> {
+        let first = self.sheet.nodes.len() as Place;
+        for node in parts.nodes {
+            let node = match *node {
+                Node::Name(name) => compact::Node::Word(self.word(name, parts.cells)?),
+                Node::Constant(value) => compact::Node::Constant(value),
+                Node::Unary(sign, operand) => compact::Node::Unary(sign, first + operand),
+                Node::Binary(operator, left, right) => {
+                    compact::Node::Binary(operator, first + left, first + right)
+                }
+            };
+            self.sheet.nodes.push(node);
+        }
+        Ok(())
     }
 
-    fn simple(&self, simple: &Simple) -> Result<sheet::Simple, u32> {
-        Ok(match simple {
-            Simple::Assignment(name, value) => {
-                sheet::Simple::Set(self.word(name)?, self.expression(value)?)
-            }
-            Simple::Send(value) => sheet::Simple::Send(self.expression(value)?),
-            Simple::Jump(label) => sheet::Simple::Goto(*label),
-        })
-    }
-
-    fn instruction(&self, instruction: &Instruction) -> Result<sheet::Instruction, u32> {
+    /// An instruction as the sheet has it, its nodes added to the program's.
+    fn instruction(
+        &mut self,
+        instruction: &Instruction,
+        parts: Parts,
+    ) -> Result<sheet::Instruction<Place>, u32> {
+        let first = self.sheet.nodes.len() as Place;
+        self.add_nodes(parts)?;
+        let simple = |simple: &Simple| -> Result<sheet::Simple<Place>, u32> {
+            Ok(match *simple {
+                Simple::Assignment(name, value) => {
+                    sheet::Simple::Set(self.word(name, parts.cells)?, first + value)
+                }
+                Simple::Send(value) => sheet::Simple::Send(first + value),
+                Simple::Jump(label) => sheet::Simple::Goto(label),
+            })
+        };
         Ok(match instruction {
-            Instruction::Simple(simple) => sheet::Instruction::Simple(self.simple(simple)?),
+            Instruction::Simple(only) => sheet::Instruction::Simple(simple(only)?),
             Instruction::If {
                 relation,
                 left,
@@ -135,43 +149,51 @@ impl Program {
                 otherwise,
             } => sheet::Instruction::If {
                 relation: *relation,
-                left: self.expression(left)?,
-                right: self.expression(right)?,
-                then: self.simple(then)?,
-                otherwise: otherwise.as_ref().map(|it| self.simple(it)).transpose()?,
+                left: first + left,
+                right: first + right,
+                then: simple(then)?,
+                otherwise: otherwise.as_ref().map(simple).transpose()?,
             },
         })
     }
 
     /// "label 0 or over 9999, set twice"
-    fn set_labels(&mut self, labels: &[u32]) -> Result<(), u32> {
+    fn set_labels(&mut self, labels: &[Token]) -> Result<(), u32> {
         // "a label as the number of the instruction after it or one past the last"
-        let next = self.instructions.len() as u32 + 1;
-        for &label in labels {
-            if !is_label(label) || self.labels.insert(label, next).is_some() {
+        let next = self.sheet.instructions.len() as u32 + 1;
+        for token in labels {
+            let Token::Decimal(label) = *token else {
+                continue;
+            };
+            if !is_label(label) || !self.labels.set(label, next) {
                 return Err(LABEL_MISUSED);
             }
         }
         Ok(())
     }
 
-    fn note_jumps(&mut self, jumps: &[u32], number: u32) -> Result<(), u32> {
-        for &label in jumps {
-            if !is_label(label) {
-                return Err(LABEL_MISUSED);
+    /// Adds the instruction, if there is one. Holds its jumps to being labels, and the set labels,
+    /// the temporaries and the orders to their limits.
+    fn hold(
+        &mut self,
+        instruction: Option<sheet::Instruction<Place>>,
+        number: u32,
+    ) -> Result<(), u32> {
+        let mut temporaries = 0;
+        if let Some(mut instruction) = instruction {
+            for label in instruction.targets() {
+                if !is_label(*label) {
+                    return Err(LABEL_MISUSED);
+                }
+                self.jumps.push(number);
             }
-            self.jumps.push((label, number));
+            let count = self.sheet.count(&instruction);
+            self.orders += count.orders;
+            temporaries = count.temporaries;
+            self.sheet.instructions.push(instruction);
         }
-        Ok(())
-    }
-
-    /// Adds the instruction, and holds the set labels, the temporaries and the orders to their
-    /// limits. "Orders are over at the first statement where those so far and STOP pass 1,024."
-    fn hold_limits(&mut self, instruction: Option<sheet::Instruction>) -> Result<(), u32> {
-        let (orders, temporaries) = instruction.as_ref().map_or((0, 0), counts);
-        self.orders += orders;
-        self.instructions.extend(instruction);
-        if self.labels.len() > MOST_LABELS
+        // "Orders are over at the first statement where those so far and STOP pass 1,024."
+        if self.labels.count() > MOST_LABELS
             || temporaries > MOST_TEMPORARIES
             || self.orders as usize + 1 > MOST_ORDERS
         {
@@ -181,55 +203,21 @@ impl Program {
     }
 
     /// The sheet at `%ENDOFPROGRAM`, or the refusal at the first jump whose label is never set.
-    pub fn sheet(self) -> Result<Sheet, Refusal> {
-        let unset = |(label, _): &&(u32, u32)| !self.labels.contains_key(label);
-        if let Some((_, number)) = self.jumps.iter().find(unset) {
-            return refuse(LABEL_MISUSED, *number);
+    pub fn sheet(self) -> Result<Compact, Refusal> {
+        let mut sheet = self.sheet;
+        sheet.variables = self.variables.count();
+        let targets = sheet.instructions.iter_mut();
+        let targets = targets.flat_map(sheet::Instruction::targets);
+        for (target, number) in targets.zip(self.jumps) {
+            match self.labels.instruction(*target) {
+                Some(instruction) => *target = instruction,
+                None => return refuse(LABEL_MISUSED, number),
+            }
         }
-        let mut instructions = self.instructions;
-        for instruction in &mut instructions {
-            lead(instruction, &self.labels);
-        }
-        Ok(Sheet {
-            variables: self.variables.len() as u32,
-            instructions,
-        })
+        Ok(sheet)
     }
 }
 
 fn is_label(number: u32) -> bool {
     (1..=MOST_LABEL).contains(&number)
-}
-
-/// The labels that an instruction jumps to, in order of the text.
-fn jumps(instruction: &Instruction) -> Vec<u32> {
-    let simples = match instruction {
-        Instruction::Simple(simple) => vec![simple],
-        Instruction::If {
-            then, otherwise, ..
-        } => [then].into_iter().chain(otherwise).collect(),
-    };
-    let label = |simple: &Simple| match simple {
-        Simple::Jump(label) => Some(*label),
-        _ => None,
-    };
-    simples.into_iter().filter_map(label).collect()
-}
-
-/// Puts instructions' numbers in place of the labels of an instruction.
-fn lead(instruction: &mut sheet::Instruction, labels: &BTreeMap<u32, u32>) {
-    let lead = |simple: &mut sheet::Simple| {
-        if let sheet::Simple::Goto(target) = simple {
-            *target = labels[target];
-        }
-    };
-    match instruction {
-        sheet::Instruction::Simple(simple) => lead(simple),
-        sheet::Instruction::If {
-            then, otherwise, ..
-        } => {
-            lead(then);
-            otherwise.iter_mut().for_each(lead);
-        }
-    }
 }

@@ -2,8 +2,8 @@
 
 use super::program::Statements;
 use super::soup;
+use super::token::Token;
 use crate::random::Random;
-use crate::source::tokens::Token;
 
 /// Changes one token or statement. There must be at least one token.
 pub fn change(random: &mut Random, statements: &mut Statements) {

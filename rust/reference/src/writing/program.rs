@@ -1,11 +1,11 @@
 //! A sheet as the tokens of a program, its names, labels and brackets chosen at random.
 
 use super::spelling::length;
+use super::token::Token;
 use crate::object::{LINK_WORDS, MOST_VARIABLES};
 use crate::random::Random;
 use crate::sheet::{Expression, Instruction, Operator, Sheet, Sign, Simple};
 use crate::sheet::{OPERATORS, RELATIONS};
-use crate::source::tokens::Token;
 use std::collections::BTreeSet;
 
 /// The tokens of each statement.

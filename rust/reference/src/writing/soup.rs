@@ -3,8 +3,8 @@
 use super::characters::packed;
 use super::program::Statements;
 use super::spelling::Style;
+use super::token::{Token, KEYWORDS, SYMBOLS};
 use crate::random::Random;
-use crate::source::tokens::{Token, KEYWORDS, SYMBOLS};
 
 /// A source of random tokens, mostly between the statements that a program has first and last.
 pub fn source(random: &mut Random) -> Vec<u8> {

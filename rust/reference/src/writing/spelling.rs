@@ -1,8 +1,15 @@
 //! Tokens as bytes: the ways in which a statement may be spelled.
 
+use super::token::Token;
 use crate::random::Random;
-use crate::source::cells::{Cell, MOST_CELLS};
-use crate::source::tokens::Token;
+use crate::source::cells::MOST_CELLS;
+
+/// A byte that a statement keeps, and whether `%` marks it as a keyword letter.
+#[derive(Clone, Copy)]
+pub struct Cell {
+    byte: u8,
+    is_keyword: bool,
+}
 
 /// How a source is spelled. Once in 0 times is never.
 #[derive(Clone, Copy)]

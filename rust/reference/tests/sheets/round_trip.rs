@@ -1,10 +1,11 @@
 //! Random sheets, translated and read back.
 
 use skimp_reference::census::Census;
+use skimp_reference::count::counts;
 use skimp_reference::generate::Plan;
 use skimp_reference::random::Random;
 use skimp_reference::sheet::Sheet;
-use skimp_reference::translate::{counts, translate, without_limits};
+use skimp_reference::translate::{translate, without_limits};
 use skimp_reference::untranslate::untranslate;
 
 /// Translates a sheet and reads it back.

@@ -5,9 +5,7 @@ use skimp_reference::random::Random;
 use skimp_reference::source::read;
 use skimp_reference::translate::{translate, Translation};
 use skimp_reference::writing::source;
-use skimp_reference::{Refusal, Reply};
-
-use crate::compare::{answer, reference};
+use skimp_reference::{compile, Reply};
 
 /// Among how many random sources the mistake must be found.
 const SOURCES: usize = 100_000;
@@ -30,7 +28,7 @@ fn found(name: &str, reader: Call) {
 
 /// The place of one refusal is one too high.
 fn wrong_place<const NUMBER: u32>(source: &[u8], buffer: &mut [u8]) -> Reply {
-    let reply = reference(source, buffer);
+    let reply = compile(source, buffer);
     Reply {
         value: reply.value + u32::from(reply.number == NUMBER),
         ..reply
@@ -60,7 +58,7 @@ fn wrong_places() {
 
 /// One refusal is taken for another.
 fn wrong_number<const NUMBER: u32, const OTHER: u32>(source: &[u8], buffer: &mut [u8]) -> Reply {
-    let reply = reference(source, buffer);
+    let reply = compile(source, buffer);
     match reply.number {
         number if number == NUMBER => Reply {
             number: OTHER,
@@ -92,7 +90,7 @@ fn wrong_numbers() {
 
 /// "Refused calls write nothing."
 fn writes_when_refused(source: &[u8], buffer: &mut [u8]) -> Reply {
-    let reply = reference(source, buffer);
+    let reply = compile(source, buffer);
     if reply.number == 11 {
         buffer[0] = b'S';
     }
@@ -101,7 +99,7 @@ fn writes_when_refused(source: &[u8], buffer: &mut [u8]) -> Reply {
 
 /// "the bytes behind stay"
 fn writes_behind(source: &[u8], buffer: &mut [u8]) -> Reply {
-    let reply = reference(source, buffer);
+    let reply = compile(source, buffer);
     if reply.number == 0 {
         buffer[reply.value as usize] = 0;
     }
@@ -111,12 +109,12 @@ fn writes_behind(source: &[u8], buffer: &mut [u8]) -> Reply {
 fn writes_at_the_end(source: &[u8], buffer: &mut [u8]) -> Reply {
     let last = buffer.len() - 1;
     buffer[last] = 0;
-    reference(source, buffer)
+    compile(source, buffer)
 }
 
 fn leaves_the_last_newline(source: &[u8], buffer: &mut [u8]) -> Reply {
     let kept = buffer[0];
-    let reply = reference(source, buffer);
+    let reply = compile(source, buffer);
     if reply.number == 0 {
         buffer[reply.value as usize - 1] = kept;
     }
@@ -148,13 +146,13 @@ fn changed(source: &[u8], inside: bool, change: fn(u8) -> Option<u8>) -> Vec<u8>
 /// "listing line 483 would capitalise it"
 fn capitals_in_quotes(source: &[u8], buffer: &mut [u8]) -> Reply {
     let capital = |byte: u8| Some(byte.to_ascii_uppercase());
-    reference(&changed(source, true, capital), buffer)
+    compile(&changed(source, true, capital), buffer)
 }
 
 /// Spaces do not end the marking of keyword letters.
 fn spaces_mark_on(source: &[u8], buffer: &mut [u8]) -> Reply {
     let other = |byte: u8| (byte != b' ').then_some(byte);
-    reference(&changed(source, false, other), buffer)
+    compile(&changed(source, false, other), buffer)
 }
 
 /// A byte that is not allowed is not found after the end of the program.
@@ -162,14 +160,14 @@ fn stops_at_the_end(source: &[u8], buffer: &mut [u8]) -> Reply {
     let end = b"%ENDOFPROGRAM\n";
     let place = source.windows(end.len()).position(|part| part == end);
     let length = place.map_or(source.len(), |place| place + end.len());
-    reference(&source[..length], buffer)
+    compile(&source[..length], buffer)
 }
 
 /// The end of the source counts as no newline.
 fn last_line_lost(source: &[u8], buffer: &mut [u8]) -> Reply {
     let ends = |byte: &u8| *byte == b'\n' || *byte == b';';
     let length = source.iter().rposition(ends).map_or(0, |place| place + 1);
-    reference(&source[..length], buffer)
+    compile(&source[..length], buffer)
 }
 
 /// `%C` goes on only right before its newline.
@@ -180,7 +178,7 @@ fn spaces_stop_continuation(source: &[u8], buffer: &mut [u8]) -> Reply {
             source[place + 3] = b';';
         }
     }
-    reference(&source, buffer)
+    compile(&source, buffer)
 }
 
 #[test]
@@ -194,14 +192,14 @@ fn wrong_bytes() {
 
 /// Refuses what the reference accepts, if `test` holds.
 fn refusing(source: &[u8], buffer: &mut [u8], test: fn(&Translation) -> bool) -> Reply {
-    let refusal = Refusal {
-        number: 11,
-        place: 2,
-    };
     let translation = read(source).map(|sheet| translate(&sheet).expect("within the limits"));
-    let refused = translation.as_ref().is_ok_and(test);
-    let text = translation.map(|translation| translation.text());
-    answer(if refused { Err(refusal) } else { text }, buffer)
+    if translation.as_ref().is_ok_and(test) {
+        return Reply {
+            number: 11,
+            value: 2,
+        };
+    }
+    compile(source, buffer)
 }
 
 fn too_few_variables(source: &[u8], buffer: &mut [u8]) -> Reply {
@@ -225,7 +223,7 @@ fn too_short_source(source: &[u8], buffer: &mut [u8]) -> Reply {
             value: 0,
         };
     }
-    reference(source, buffer)
+    compile(source, buffer)
 }
 
 #[test]

@@ -2,20 +2,13 @@
 //! chunk is a quoted text, a `%` with its letters, a comment, or another byte.
 
 use skimp_reference::random::Random;
-use skimp_reference::source::cells::{Cell, Statements};
+use skimp_reference::source::cells::{Statements, KEYWORD};
 use skimp_reference::writing::exhaustive::kinds;
 use skimp_reference::writing::source;
 
-type Read = Vec<Result<Vec<Cell>, u32>>;
+type Read = Vec<Result<Vec<u8>, u32>>;
 
-const CONTINUATION: Cell = Cell {
-    byte: b'C',
-    is_keyword: true,
-};
-
-fn cells(bytes: &[u8], is_keyword: bool) -> impl Iterator<Item = Cell> + '_ {
-    bytes.iter().map(move |&byte| Cell { byte, is_keyword })
-}
+const CONTINUATION: u8 = b'C' | KEYWORD;
 
 /// How many bytes there are up to one of the ends, that one included.
 fn through(bytes: &[u8], ends: &[u8]) -> Option<usize> {
@@ -34,7 +27,7 @@ fn by_chunks(source: &[u8]) -> Read {
             b'\'' => match through(&rest[1..], b"'") {
                 Some(quoted) => {
                     length += quoted;
-                    held.extend(cells(&rest[..length], false));
+                    held.extend(&rest[..length]);
                 }
                 // quoted to the end of the source, which is 3 unless the cells are too many before
                 None => {
@@ -48,7 +41,11 @@ fn by_chunks(source: &[u8]) -> Read {
                     .iter()
                     .take_while(|byte| byte.is_ascii_alphabetic());
                 length += letters.count();
-                held.extend(cells(&rest[1..length].to_ascii_uppercase(), true));
+                held.extend(
+                    rest[1..length]
+                        .iter()
+                        .map(|byte| byte.to_ascii_uppercase() | KEYWORD),
+                );
             }
             b' ' => {}
             b'!' if held.is_empty() => length = through(rest, b";\n").unwrap_or(rest.len()),
@@ -60,7 +57,7 @@ fn by_chunks(source: &[u8]) -> Read {
             b'\n' if held.last() == Some(&CONTINUATION) => drop(held.pop()),
             b';' | b'\n' if held.is_empty() => {}
             b';' | b'\n' => statements.push(Ok(std::mem::take(&mut held))),
-            _ => held.extend(cells(&[first.to_ascii_uppercase()], false)),
+            _ => held.push(first.to_ascii_uppercase()),
         }
         if held.len() > 256 {
             statements.push(Err(4));
@@ -80,9 +77,10 @@ fn by_chunks(source: &[u8]) -> Read {
 /// Holds the reference to this method. Gives whether the source has a statement or a refusal.
 fn check(source: &[u8]) -> bool {
     let mut expected = Read::new();
-    for statement in Statements::new(source) {
+    let mut statements = Statements::new(source);
+    while let Some(statement) = statements.read() {
         let is_refused = statement.is_err();
-        expected.push(statement);
+        expected.push(statement.map(<[u8]>::to_vec));
         if is_refused {
             break;
         }

@@ -1,38 +1,16 @@
 //! The comparison itself: the reference agrees with itself on random sources of every kind.
 
 use skimp_reference::agree::{Compared, Outcomes, COMPILE};
+use skimp_reference::compile;
 use skimp_reference::random::Random;
 use skimp_reference::source::read;
 use skimp_reference::writing::exhaustive::kinds;
 use skimp_reference::writing::{source, MAKINGS};
-use skimp_reference::{compile, Refusal, Reply};
-
-/// The reference as the archive would be called.
-pub fn reference(source: &[u8], buffer: &mut [u8]) -> Reply {
-    answer(compile(source), buffer)
-}
-
-/// What the archive would answer for a text or a refusal.
-pub fn answer(result: Result<String, Refusal>, buffer: &mut [u8]) -> Reply {
-    match result {
-        Ok(text) => {
-            buffer[..text.len()].copy_from_slice(text.as_bytes());
-            Reply {
-                number: 0,
-                value: text.len() as u32,
-            }
-        }
-        Err(refusal) => Reply {
-            number: refusal.number,
-            value: refusal.place,
-        },
-    }
-}
 
 #[test]
 fn every_outcome() {
     let mut random = Random(41);
-    let mut compared = Compared::new(COMPILE, reference);
+    let mut compared = Compared::new(COMPILE, compile);
     let mut outcomes = Outcomes::default();
     let mut by_making = MAKINGS.map(|_| Outcomes::default());
     let mut bytes = 0;

@@ -1,0 +1,180 @@
+//! Sheets in few pieces: the nodes of all expressions stand in one list, so that none is allocated
+//! by itself. Source is read to such a sheet, and translating, reading back and writing work on it.
+
+use crate::sheet::{Expression, Instruction, Operator, Sheet, Sign, Simple};
+use crate::sheet::{OPERATORS, RELATIONS, SIGNS};
+use crate::text::put_number;
+
+/// Where a node stands in its list.
+pub type Place = u32;
+
+/// A node of an expression, its operands by their places.
+#[derive(Clone, Copy, Debug)]
+pub enum Node {
+    Word(u32),
+    Constant(u32),
+    Unary(Sign, Place),
+    Binary(Operator, Place, Place),
+}
+
+impl Node {
+    /// "A variable or constant is plain."
+    pub fn is_plain(self) -> bool {
+        matches!(self, Node::Word(_) | Node::Constant(_))
+    }
+}
+
+pub struct Compact {
+    pub variables: u32,
+    pub nodes: Vec<Node>,
+    pub instructions: Vec<Instruction<Place>>,
+}
+
+impl Compact {
+    pub fn new(variables: u32) -> Compact {
+        Compact {
+            variables,
+            nodes: Vec::new(),
+            instructions: Vec::new(),
+        }
+    }
+
+    /// Adds a node, and gives its place.
+    pub fn put(&mut self, node: Node) -> Place {
+        self.nodes.push(node);
+        self.nodes.len() as Place - 1
+    }
+
+    pub fn node(&self, place: Place) -> Node {
+        self.nodes[place as usize]
+    }
+
+    pub fn of(sheet: &Sheet) -> Compact {
+        let mut compact = Compact::new(sheet.variables);
+        for instruction in &sheet.instructions {
+            let instruction = instruction.map(|expression| compact.put_all(expression));
+            compact.instructions.push(instruction);
+        }
+        compact
+    }
+
+    /// Adds the nodes of an expression, and gives the place of the last.
+    pub fn put_all(&mut self, expression: &Expression) -> Place {
+        let node = match expression {
+            Expression::Word(word) => Node::Word(*word),
+            Expression::Constant(constant) => Node::Constant(*constant),
+            Expression::Unary(sign, operand) => Node::Unary(*sign, self.put_all(operand)),
+            Expression::Binary(operator, left, right) => {
+                let (left, right) = (self.put_all(left), self.put_all(right));
+                Node::Binary(*operator, left, right)
+            }
+        };
+        self.put(node)
+    }
+
+    pub fn sheet(&self) -> Sheet {
+        let instructions = self.instructions.iter();
+        Sheet {
+            variables: self.variables,
+            instructions: instructions
+                .map(|instruction| instruction.map(|place| self.expression(*place)))
+                .collect(),
+        }
+    }
+
+    fn expression(&self, place: Place) -> Expression {
+        let operand = |place| Box::new(self.expression(place));
+        match self.node(place) {
+            Node::Word(word) => Expression::Word(word),
+            Node::Constant(constant) => Expression::Constant(constant),
+            Node::Unary(sign, only) => Expression::Unary(sign, operand(only)),
+            Node::Binary(operator, left, right) => {
+                Expression::Binary(operator, operand(left), operand(right))
+            }
+        }
+    }
+}
+
+/// Writing. Each field but the first of a line stands behind a tab.
+impl Compact {
+    /// The sheet text.
+    pub fn text(&self) -> Vec<u8> {
+        let mut text = Vec::with_capacity(16 * (self.nodes.len() + self.instructions.len()) + 32);
+        text.extend_from_slice(b"SHEET\t");
+        put_number(&mut text, self.variables);
+        text.push(b'\t');
+        put_number(&mut text, self.instructions.len() as u32);
+        text.push(b'\n');
+        for instruction in &self.instructions {
+            self.write(&mut text, instruction);
+            text.push(b'\n');
+        }
+        text
+    }
+
+    fn write(&self, text: &mut Vec<u8>, instruction: &Instruction<Place>) {
+        match instruction {
+            Instruction::Simple(simple) => self.write_simple(text, simple),
+            Instruction::If {
+                relation,
+                left,
+                right,
+                then,
+                otherwise,
+            } => {
+                text.extend_from_slice(b"IF\t");
+                text.extend_from_slice(RELATIONS[*relation as usize].1.as_bytes());
+                self.write_expression(text, *left);
+                self.write_expression(text, *right);
+                text.extend_from_slice(b"\tTHEN\t");
+                self.write_simple(text, then);
+                if let Some(otherwise) = otherwise {
+                    text.extend_from_slice(b"\tELSE\t");
+                    self.write_simple(text, otherwise);
+                }
+            }
+        }
+    }
+
+    fn write_simple(&self, text: &mut Vec<u8>, simple: &Simple<Place>) {
+        match simple {
+            Simple::Set(word, value) => {
+                text.extend_from_slice(b"SET\t");
+                put_number(text, *word);
+                self.write_expression(text, *value);
+            }
+            Simple::Send(value) => {
+                text.extend_from_slice(b"SEND");
+                self.write_expression(text, *value);
+            }
+            Simple::Goto(instruction) => {
+                text.extend_from_slice(b"GOTO\t");
+                put_number(text, *instruction);
+            }
+        }
+    }
+
+    /// "Expressions are in prefix order, a field a node."
+    fn write_expression(&self, text: &mut Vec<u8>, place: Place) {
+        text.push(b'\t');
+        match self.node(place) {
+            Node::Word(word) => {
+                text.push(b'W');
+                put_number(text, word);
+            }
+            Node::Constant(constant) => {
+                text.push(b'K');
+                put_number(text, constant);
+            }
+            Node::Unary(sign, operand) => {
+                text.extend_from_slice(SIGNS[sign as usize].1.as_bytes());
+                self.write_expression(text, operand);
+            }
+            Node::Binary(operator, left, right) => {
+                text.extend_from_slice(OPERATORS[operator as usize].1.as_bytes());
+                self.write_expression(text, left);
+                self.write_expression(text, right);
+            }
+        }
+    }
+}

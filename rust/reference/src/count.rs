@@ -1,0 +1,91 @@
+//! How many orders and temporaries the translation of an instruction has, without translating it.
+
+use crate::compact::{Compact, Node, Place};
+use crate::sheet::{Instruction, Simple};
+
+/// How many orders an instruction has, and how many temporaries it uses.
+pub fn counts(instruction: &Instruction) -> (u32, u32) {
+    let mut compact = Compact::new(0);
+    let instruction = instruction.map(|expression| compact.put_all(expression));
+    let count = compact.count(&instruction);
+    (count.orders, count.temporaries)
+}
+
+/// Orders, and the temporaries that they use beside those that are in use before.
+#[derive(Clone, Copy, Default)]
+pub struct Count {
+    pub orders: u32,
+    pub temporaries: u32,
+}
+
+impl Count {
+    fn and(self, other: Count) -> Count {
+        Count {
+            orders: self.orders + other.orders,
+            temporaries: self.temporaries.max(other.temporaries),
+        }
+    }
+
+    fn and_orders(self, orders: u32) -> Count {
+        Count {
+            orders: self.orders + orders,
+            ..self
+        }
+    }
+}
+
+/// Counting what translating puts, without putting it.
+impl Compact {
+    pub fn count(&self, instruction: &Instruction<Place>) -> Count {
+        match instruction {
+            Instruction::Simple(simple) => self.count_simple(simple),
+            Instruction::If {
+                left,
+                right,
+                then,
+                otherwise,
+                ..
+            } => {
+                // the branch, and the JMP that closes the first u
+                let both = self.count_binary(*left, *right).and_orders(1);
+                let first = both.and(self.count_simple(then));
+                match otherwise {
+                    Some(second) => first.and_orders(1).and(self.count_simple(second)),
+                    None => first,
+                }
+            }
+        }
+    }
+
+    fn count_simple(&self, simple: &Simple<Place>) -> Count {
+        match simple {
+            Simple::Set(_, value) | Simple::Send(value) => {
+                self.count_expression(*value).and_orders(1)
+            }
+            Simple::Goto(_) => Count::default().and_orders(1),
+        }
+    }
+
+    fn count_expression(&self, place: Place) -> Count {
+        match self.node(place) {
+            Node::Word(_) | Node::Constant(_) => Count::default().and_orders(1),
+            Node::Unary(_, operand) => self.count_expression(operand).and_orders(1),
+            Node::Binary(_, left, right) => self.count_binary(left, right),
+        }
+    }
+
+    /// With a right operand that is not plain, four orders beside those of the operands, and two
+    /// temporaries or one and those of the right.
+    fn count_binary(&self, left: Place, right: Place) -> Count {
+        let left = self.count_expression(left);
+        if self.node(right).is_plain() {
+            return left.and_orders(1);
+        }
+        let right = self.count_expression(right);
+        let right = Count {
+            orders: right.orders + 4,
+            temporaries: 1 + right.temporaries.max(1),
+        };
+        left.and(right)
+    }
+}
