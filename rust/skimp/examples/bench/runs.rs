@@ -1,7 +1,4 @@
-//! The archive's time for a step against that of the reference, which is plain Rust.
-//!
-//! Both run the same object from the start to its STOP. The rounds alternate, so that a change of
-//! the machine's speed meets both, and the least time of each counts.
+//! Run: the time for a step, of objects that both run from the start to their STOP.
 
 use std::time::{Duration, Instant};
 
@@ -135,7 +132,7 @@ fn reference(text: &[u8], state: &mut [u8], output: &mut [u8]) -> (u32, u32) {
 }
 
 /// Measures a program in both and prints its line.
-fn report(program: &Program) {
+fn line(program: &Program) {
     let text = program.text();
     let mut outputs = [vec![0; program.output], vec![0; program.output]];
     let mut least = [Duration::MAX; 2];
@@ -159,18 +156,19 @@ fn report(program: &Program) {
     }
     let [ours, other] = least.map(|time| time.as_secs_f64() * 1e9 / f64::from(steps));
     println!(
-        "{:<12}{steps:>12}{ours:>12.2}{other:>12.2}{:>12.2}",
+        "{:<18}{steps:>10}{ours:>12.2}{other:>12.2}{:>12.2}",
         program.name,
         ours / other
     );
 }
 
-fn main() {
+/// Prints the table of run.
+pub fn report() {
     println!(
-        "{:<12}{:>12}{:>12}{:>12}{:>12}",
-        "program", "steps", "proved ns", "Rust ns", "ratio"
+        "{:<18}{:>10}{:>12}{:>12}{:>12}",
+        "run", "steps", "proved ns", "Rust ns", "ratio"
     );
     for program in programs() {
-        report(&program);
+        line(&program);
     }
 }

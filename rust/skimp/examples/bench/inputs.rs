@@ -1,0 +1,19 @@
+//! What the texts that compile and read-back are measured on share.
+
+/// A text, with what it is called in the table.
+pub struct Input {
+    pub name: &'static str,
+    pub text: Vec<u8>,
+}
+
+impl Input {
+    pub fn new(name: &'static str, text: String) -> Input {
+        Input {
+            name,
+            text: text.into_bytes(),
+        }
+    }
+}
+
+/// The orders before STOP.
+pub const MOST_ORDERS: usize = 1023;

@@ -1,0 +1,160 @@
+//! Sources: a small program, one of the most bytes with 64 long names, a random one, and those
+//! found to cost most for a byte or most against the reference.
+
+use skimp_reference::generate::Plan;
+use skimp_reference::random::Random;
+use skimp_reference::source::MOST_SOURCE;
+use skimp_reference::writing::program::write;
+use skimp_reference::writing::spelling::Style;
+
+use crate::inputs::{Input, MOST_ORDERS};
+
+const MOST_LABELS: usize = 64;
+const MOST_VARIABLES: usize = 64;
+/// The cells of a statement before its end mark.
+const MOST_CELLS: usize = 255;
+
+pub fn all() -> Vec<Input> {
+    let small = include_str!("../../../../examples/heater.skimp");
+    vec![
+        Input::new("small", small.to_string()),
+        Input::new("empty", program("", "")),
+        Input::new("long names", long_names()),
+        Input::new("like names", like_names(30)),
+        Input::new("short names", like_names(2)),
+        random(),
+        Input::new("assignments", with_a(&"A=A\n".repeat(MOST_ORDERS / 2))),
+        Input::new("jumps", jumps()),
+        Input::new("conditions", conditions("", 4)),
+        Input::new("with ELSE", conditions("%ELSE->1", 6)),
+        Input::new("chains", with_a(&chains("A=A", "-A"))),
+        Input::new("constants", with_a(&chains("A='zzzz'", "!!'zzzz'"))),
+        Input::new("nested", with_a(&nested())),
+        Input::new("brackets", with_a(&brackets())),
+        Input::new("comments", filled(&format!("!{}\n", "*".repeat(79)))),
+        Input::new("spaces", filled(" ")),
+    ]
+}
+
+fn program(declarations: &str, instructions: &str) -> String {
+    format!("%BEGIN\n{declarations}{instructions}%ENDOFPROGRAM\n")
+}
+
+/// A program with the one variable A.
+fn with_a(instructions: &str) -> String {
+    program("%INTEGER A\n", instructions)
+}
+
+/// Names of so many letters, which differ in the last two only.
+fn names(letters: usize) -> Vec<String> {
+    let front = "N".repeat(letters - 2);
+    let letter = |first: u8, place: usize| char::from(first + place as u8);
+    let name = |place: usize| {
+        let (row, column) = (letter(b'A', place / 8), letter(b'0', place % 8));
+        format!("{front}{row}{column}")
+    };
+    (0..MOST_VARIABLES).map(name).collect()
+}
+
+/// Their declarations, as few statements as there may be.
+fn declarations(names: &[String]) -> String {
+    // each name has a comma behind it but the last
+    let room = MOST_CELLS + 1 - "INTEGER".len();
+    let lists = names.chunks(room / (names[0].len() + 1));
+    let lists = lists.map(|list| format!("%INTEGER {}\n", list.join(",")));
+    lists.collect()
+}
+
+/// Names of 200 letters, each declared by itself and sent, up to the most bytes.
+fn long_names() -> String {
+    let names = names(200);
+    let lists = declarations(&names);
+    let mut sends = String::new();
+    for name in names.iter().rev().cycle() {
+        let send = format!("SEND({name})\n");
+        if program(&lists, &sends).len() + send.len() > MOST_SOURCE {
+            break;
+        }
+        sends += &send;
+    }
+    padded(program(&lists, &sends))
+}
+
+/// A comment behind the program, up to the most bytes.
+fn padded(source: String) -> String {
+    let room = MOST_SOURCE - source.len() - 1;
+    format!("{source}!{}", "*".repeat(room))
+}
+
+/// The name that was declared last, over and over, up to the most bytes or orders.
+fn like_names(letters: usize) -> String {
+    let names = names(letters);
+    let lists = declarations(&names);
+    let last = &names[MOST_VARIABLES - 1];
+    let statements = chains(&format!("{last}={last}"), &format!("-{last}"));
+    let room = MOST_SOURCE - program(&lists, "").len();
+    let fitting = statements[..room.min(statements.len())].rfind('\n');
+    program(&lists, &statements[..=fitting.expect("a statement")])
+}
+
+/// A random program of all orders, in a random spelling.
+fn random() -> Input {
+    let mut random = Random(91);
+    loop {
+        let sheet = Plan::random(&mut random).sheet(&mut random, MOST_ORDERS + 1);
+        let source = write(&mut random, &sheet)
+            .map(|statements| Style::random(&mut random).source(&mut random, &statements));
+        if let Some(text) = source.filter(|text| text.len() <= MOST_SOURCE) {
+            return Input {
+                name: "random",
+                text,
+            };
+        }
+    }
+}
+
+/// All labels before the first instruction, and all jumps to the one that was set last.
+fn jumps() -> String {
+    let labels = (0..MOST_LABELS).map(|place| format!("{}:\n", 9936 + place));
+    let jumps = "->9999\n".repeat(MOST_ORDERS);
+    program("", &(labels.collect::<String>() + &jumps))
+}
+
+/// As many as fit, of so many orders each.
+fn conditions(otherwise: &str, orders: usize) -> String {
+    let condition = format!("%IF A=A%THEN->1{otherwise}\n");
+    with_a(&format!("1:{}", condition.repeat(MOST_ORDERS / orders)))
+}
+
+/// Statements of a first operand and of as many pieces, each of one order, as fit in the cells; and
+/// so many statements that they have all orders.
+fn chains(first: &str, piece: &str) -> String {
+    // LOAD and STR
+    let around = 2;
+    let most = (MOST_CELLS - first.len()) / piece.len() + around;
+    let statement = |orders: usize| format!("{first}{}\n", piece.repeat(orders - around));
+    let whole = statement(most).repeat(MOST_ORDERS / most);
+    match MOST_ORDERS % most {
+        rest if rest >= around => whole + &statement(rest),
+        _ => whole,
+    }
+}
+
+/// Expressions that use all temporaries: 31 pairs of brackets, of five orders each.
+fn nested() -> String {
+    let statement = format!("A={}\\A{}\n", "A-(".repeat(31), ")".repeat(31));
+    statement.repeat(MOST_ORDERS / (31 * 5 + 3))
+}
+
+/// A variable in brackets, as many as fit in the cells.
+fn brackets() -> String {
+    let depth = (MOST_CELLS - "A=A".len()) / 2;
+    let statement = format!("A={}A{}\n", "(".repeat(depth), ")".repeat(depth));
+    statement.repeat((MOST_SOURCE - with_a("").len()) / statement.len())
+}
+
+/// An empty program, and something that is skipped in it up to the most bytes.
+fn filled(skipped: &str) -> String {
+    let room = MOST_SOURCE - program("", "").len();
+    program(&skipped.repeat(room / skipped.len()), "")
+}

@@ -1,0 +1,106 @@
+//! Compile and read-back: the time for a byte of the text that is read.
+
+use std::time::{Duration, Instant};
+
+use crate::inputs::Input;
+use crate::{objects, sources};
+
+const ROUNDS: usize = 30;
+/// A round reads about so many bytes, so that the clock's own time does not count.
+const BYTES: usize = 32_768;
+/// What the buffers hold before a call.
+const UNTOUCHED: u8 = 0x5A;
+
+/// Reads a text and writes another to the front of the buffer. Gives the number and the length.
+type Call = fn(&[u8], &mut [u8]) -> (u32, u32);
+
+/// The archive's call and the reference's.
+type Calls = [Call; 2];
+
+const COMPILE: Calls = [
+    |source, object| {
+        let reply = skimp::raw::compile(source, object);
+        (reply.number, reply.value)
+    },
+    |source, object| {
+        let reply = skimp_reference::compile(source, object);
+        (reply.number, reply.value)
+    },
+];
+
+const READ_BACK: Calls = [
+    |object, sheet| {
+        let reply = skimp::raw::read_back(object, sheet);
+        (reply.number, reply.value)
+    },
+    |object, sheet| {
+        let reply = skimp_reference::read_back(object, sheet);
+        (reply.number, reply.value)
+    },
+];
+
+/// Makes a call over and over. Gives what it replied last, and how long one took.
+fn measure(call: Call, text: &[u8], buffer: &mut [u8]) -> ((u32, u32), Duration) {
+    let times = 1 + BYTES / text.len();
+    buffer.fill(UNTOUCHED);
+    let mut reply = (0, 0);
+    let start = Instant::now();
+    for _ in 0..times {
+        reply = call(text, buffer);
+    }
+    (reply, start.elapsed() / times as u32)
+}
+
+/// Measures an input in both, and prints its line. Gives the text that both wrote.
+fn line(input: &Input, calls: Calls) -> Vec<u8> {
+    let Input { name, text } = input;
+    let mut buffers = [vec![0; skimp::SHEET_MOST], vec![0; skimp::SHEET_MOST]];
+    let mut least = [Duration::MAX; 2];
+    let mut written = 0;
+    // the first round warms up
+    for round in 0..=ROUNDS {
+        let (ours, our_time) = measure(calls[0], text, &mut buffers[0]);
+        let (other, other_time) = measure(calls[1], text, &mut buffers[1]);
+        assert_eq!(ours.0, 0, "{name}: it was refused");
+        assert_eq!(ours, other, "{name}: the replies differ");
+        assert!(buffers[0] == buffers[1], "{name}: the texts differ");
+        written = ours.1 as usize;
+        if round > 0 {
+            least = [least[0].min(our_time), least[1].min(other_time)];
+        }
+    }
+    let [ours, other] = least.map(|time| time.as_secs_f64() * 1e9 / text.len() as f64);
+    println!(
+        "{name:<18}{:>10}{ours:>12.2}{other:>12.2}{:>12.2}",
+        text.len(),
+        ours / other
+    );
+    buffers[0][..written].to_vec()
+}
+
+fn header(call: &str) {
+    println!(
+        "{call:<18}{:>10}{:>12}{:>12}{:>12}",
+        "bytes", "proved ns", "Rust ns", "ratio"
+    );
+}
+
+/// Prints the table of compile, and that of read-back on the objects that it gave and on others.
+pub fn report() {
+    header("compile");
+    let mut inputs = Vec::new();
+    for source in sources::all() {
+        let text = line(&source, COMPILE);
+        inputs.push(Input {
+            name: source.name,
+            text,
+        });
+    }
+    println!();
+    header("read-back");
+    inputs.extend(objects::all());
+    for object in &inputs {
+        line(object, READ_BACK);
+    }
+    println!();
+}
