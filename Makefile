@@ -22,11 +22,12 @@ demo:
 	@target/demo/supervisor -s 5 examples/worked.box
 	@target/demo/supervisor -s 10 examples/heater.skimp
 
-# The proved run's time for a step against that of plain Rust.
+# The time of the proved calls against that of plain Rust; then what the archive takes of the box.
 bench:
 	@mkdir -p target
 	@rt staticlib skimp >target/bench.log 2>&1 || { cat target/bench.log; exit 1; }
 	@cd rust && cargo run --release --offline --locked --quiet --package skimp --example bench
+	@tools/archive $(ARCHIVE)
 
 # The archive comes from `rt staticlib skimp`.
 target/demo/supervisor: examples/supervisor.c include/skimp.h $(ARCHIVE)
