@@ -7,7 +7,7 @@ pub fn all() -> Vec<Input> {
         object("jumps to the end", jumps(|_| MOST_ORDERS)),
         object("jumps turned", jumps(|place| MOST_ORDERS - place)),
         object("far conditions", far_conditions()),
-        object("chain of XOR", chain("XOR D 2")),
+        object("chain of OR", chain("OR K 0")),
         object("chain of SHL", chain("SHL K 2147483647")),
         object("chain of NEG", chain("NEG - 0")),
     ]

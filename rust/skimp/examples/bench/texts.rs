@@ -52,8 +52,7 @@ fn measure(call: Call, text: &[u8], buffer: &mut [u8]) -> ((u32, u32), Duration)
 }
 
 /// Measures an input in both, and prints its line. Gives the text that both wrote.
-fn line(input: &Input, calls: Calls) -> Vec<u8> {
-    let Input { name, text } = input;
+fn line(name: &str, text: &[u8], calls: Calls) -> Vec<u8> {
     let mut buffers = [vec![0; skimp::SHEET_MOST], vec![0; skimp::SHEET_MOST]];
     let mut least = [Duration::MAX; 2];
     let mut written = 0;
@@ -85,22 +84,32 @@ fn header(call: &str) {
     );
 }
 
-/// Prints the table of compile, and that of read-back on the objects that it gave and on others.
-pub fn report() {
+/// Prints the table of compile. Gives the objects, those that are alike once.
+fn compile() -> Vec<Input> {
     header("compile");
-    let mut inputs = Vec::new();
-    for source in sources::all() {
-        let text = line(&source, COMPILE);
-        inputs.push(Input {
-            name: source.name,
-            text,
-        });
+    let mut objects: Vec<Input> = Vec::new();
+    for Input { name, text } in sources::all() {
+        let object = line(name, &text, COMPILE);
+        if objects.iter().all(|other| other.text != object) {
+            objects.push(Input { name, text: object });
+        }
     }
-    println!();
+    objects
+}
+
+/// Prints the table of read-back.
+fn read_back(objects: &[Input]) {
     header("read-back");
-    inputs.extend(objects::all());
-    for object in &inputs {
-        line(object, READ_BACK);
+    for Input { name, text } in objects {
+        line(name, text, READ_BACK);
     }
+}
+
+/// Prints both tables. Read-back is measured on the objects that compile gave, and on others.
+pub fn report() {
+    let mut objects = compile();
+    objects.extend(objects::all());
+    println!();
+    read_back(&objects);
     println!();
 }
