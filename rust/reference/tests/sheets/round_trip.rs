@@ -1,5 +1,6 @@
 //! Random sheets, translated and read back.
 
+use skimp_reference::agree::{Compared, READ_BACK};
 use skimp_reference::census::Census;
 use skimp_reference::count::counts;
 use skimp_reference::generate::Plan;
@@ -81,4 +82,20 @@ fn limits() {
     assert_eq!(census.with_temporaries(32), 100);
     assert_eq!(census.with_variables(64), 100);
     assert_eq!(census.with_instructions(1), 50);
+}
+
+/// The reference's own call with buffers of every length.
+#[test]
+fn every_room() {
+    let mut random = Random(15);
+    let mut compared = Compared::new(READ_BACK, skimp_reference::read_back);
+    let mut too_short = 0;
+    for _ in 0..200 {
+        let sheet = Plan::small_sheet(&mut random);
+        let object = translate(&sheet).expect("within the limits").text();
+        too_short += compared.check_rooms("rooms, seed 15", object.as_bytes(), |length| {
+            (0..=length + 1).collect()
+        });
+    }
+    assert!(too_short >= 10_000, "{too_short} buffers were too short");
 }

@@ -5,7 +5,7 @@ use skimp_reference::compile;
 use skimp_reference::random::Random;
 use skimp_reference::source::read;
 use skimp_reference::writing::exhaustive::kinds;
-use skimp_reference::writing::{source, MAKINGS};
+use skimp_reference::writing::{source, spelled_sheet, MAKINGS};
 
 #[test]
 fn every_outcome() {
@@ -26,6 +26,21 @@ fn every_outcome() {
         println!("{making:?}: {outcomes}");
     }
     outcomes.every_one("every outcome, seed 41", 20);
+}
+
+/// The reference's own call with buffers of every length.
+#[test]
+fn every_room() {
+    let mut random = Random(44);
+    let mut compared = Compared::new(COMPILE, compile);
+    let mut too_short = 0;
+    for _ in 0..200 {
+        let (_, source) = spelled_sheet(&mut random);
+        too_short += compared.check_rooms("rooms, seed 44", &source, |length| {
+            (0..=length + 1).collect()
+        });
+    }
+    assert!(too_short >= 10_000, "{too_short} buffers were too short");
 }
 
 /// What the small sources are read to.
