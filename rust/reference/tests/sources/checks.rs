@@ -46,6 +46,10 @@ fn labels() {
         ("2147483648: A=1", "6 at 3"),
         ("->0", "9 at 3"),
         ("->10000", "9 at 3"),
+        // such a jump is refused by itself, not as one whose label is never set
+        ("->0; ?", "9 at 3"),
+        ("->10000; ?", "9 at 3"),
+        ("->9999; ?", "7 at 4"),
         ("->2147483648", "6 at 3"),
         ("9999: ->9999", "GOTO 1"),
         ("1: ->1", "GOTO 1"),
