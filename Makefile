@@ -1,9 +1,11 @@
-.PHONY: test edits demo bench
+.PHONY: test edits build demo install bench
 
 CFLAGS = -std=c99 -Wall -Wextra -Werror -O2
+PREFIX = /usr/local
 ARCHIVE = target/staticlib/libskimp.a
+TOOL = target/cargo/release/skimp
 
-# The gate: proofs, must-fail edits, programs, the tests in rust/, and the supervisor in examples/.
+# The gate: proofs, must-fail edits, programs, the tests in rust/, the supervisor in examples/, the installation and the demo.
 test:
 	@tools/gate
 
@@ -11,16 +13,23 @@ test:
 edits:
 	@tools/edits $(CRATE)
 
-# What the project does so far: document 01's readings of word arithmetic; its worked object read back and run in slices; and
-# a source compiled, read back and run.
-demo:
+# The archive, proved, and the command over it.
+build:
 	@mkdir -p target
-	@rt check readings >target/demo.log 2>&1 || { cat target/demo.log; exit 1; }
-	@target/bin/readings
-	@rt staticlib skimp >target/demo.log 2>&1 || { cat target/demo.log; exit 1; }
+	@rt staticlib skimp >target/build.log 2>&1 || { cat target/build.log; exit 1; }
+	@cd rust && cargo build --release --offline --locked --quiet --package skimp-tool
+
+# What the product does: a program from source to object, sheet and run; objects compared; refusals.
+demo: build
 	@$(MAKE) --no-print-directory target/demo/supervisor
-	@target/demo/supervisor -s 5 examples/worked.box
-	@target/demo/supervisor -s 10 examples/heater.skimp
+	@tools/demo
+
+# The command with its manual page, and the archive with its header, below PREFIX. DESTDIR goes before it.
+install: build
+	@install -D -m 755 $(TOOL) $(DESTDIR)$(PREFIX)/bin/skimp
+	@install -D -m 644 docs/skimp.1 $(DESTDIR)$(PREFIX)/share/man/man1/skimp.1
+	@install -D -m 644 include/skimp.h $(DESTDIR)$(PREFIX)/include/skimp.h
+	@install -D -m 644 $(ARCHIVE) $(DESTDIR)$(PREFIX)/lib/libskimp.a
 
 # The time of the proved calls against that of plain Rust; then what the archive takes of the box.
 bench:
@@ -29,7 +38,7 @@ bench:
 	@cd rust && cargo run --release --offline --locked --quiet --package skimp --example bench
 	@tools/archive $(ARCHIVE)
 
-# The archive comes from `rt staticlib skimp`.
+# The archive comes from `make build`.
 target/demo/supervisor: examples/supervisor.c include/skimp.h $(ARCHIVE)
 	@mkdir -p $(@D)
 	@$(CC) $(CFLAGS) -Iinclude examples/supervisor.c $(ARCHIVE) -o $@

@@ -1,0 +1,12 @@
+//! The command as a user or a script meets it: what it prints, its exit status, and the files that
+//! it leaves.
+
+mod commands;
+mod compare;
+mod files;
+mod killed;
+mod readme;
+mod refusals;
+mod run;
+mod session;
+mod statements;

@@ -1,0 +1,77 @@
+//! What the documents show is what there is.
+
+use crate::session::{repository, Session, SKIMP};
+use std::fs;
+use std::path::Path;
+use std::process::Command;
+
+fn text(name: &str) -> String {
+    fs::read_to_string(repository(name)).expect("a file")
+}
+
+/// The commands of the session in README, each with what it prints.
+fn commands(readme: &str) -> Vec<(&str, String)> {
+    let (_, rest) = readme.split_once("```console\n").expect("a session");
+    let (session, rest) = rest.split_once("```").expect("its end");
+    assert!(!rest.contains("```console"), "one session");
+    let mut commands: Vec<(&str, String)> = Vec::new();
+    for line in session.lines() {
+        match (line.strip_prefix("$ "), commands.last_mut()) {
+            (Some(command), _) => commands.push((command, String::new())),
+            (None, Some((_, printed))) => *printed += &format!("{line}\n"),
+            (None, None) => panic!("{line} stands before the first command"),
+        }
+    }
+    commands
+}
+
+/// What a command prints on both outputs, with the tool under its name.
+fn printed(session: &Session, command: &str) -> String {
+    let folder = Path::new(SKIMP).parent().expect("a folder").display();
+    let path = std::env::var("PATH").expect("a path");
+    let output = Command::new("sh")
+        .args(["-c", &format!("exec 2>&1; {command}")])
+        .env("PATH", format!("{folder}:{path}"))
+        .current_dir(&session.folder)
+        .output();
+    String::from_utf8(output.expect("its end").stdout).expect("text")
+}
+
+#[test]
+fn session() {
+    let readme = text("README.md");
+    let commands = commands(&readme);
+    assert!(commands.len() >= 8, "too few commands");
+    let session = Session::new();
+    session.put("heater.skimp", text("examples/heater.skimp"));
+    for (command, expected) in commands {
+        assert_eq!(printed(&session, command), expected, "$ {command}");
+    }
+}
+
+/// The program in the manual is the one in examples/.
+#[test]
+fn program_in_the_manual() {
+    let indented = |line: &str| match line {
+        "" => "\n".to_string(),
+        line => format!("    {line}\n"),
+    };
+    let program: String = text("examples/heater.skimp")
+        .lines()
+        .map(indented)
+        .collect();
+    assert!(text("docs/MANUAL.md").contains(&program));
+}
+
+/// The command's words for each refusal are those of the manual page's example and of README.
+#[test]
+fn refusal_in_the_manual_page() {
+    let session = Session::new();
+    session.put(
+        "heater.skimp",
+        text("examples/heater.skimp").replace("2 * HEATER", "2 * HEATR"),
+    );
+    let page = text("docs/skimp.1").replace("\\-", "-");
+    let refusal = session.skimp(&["check", "heater.skimp"]).err;
+    assert!(page.contains(&refusal), "{refusal}");
+}
