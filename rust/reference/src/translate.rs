@@ -55,11 +55,7 @@ pub fn translate_compact(sheet: &Compact) -> Translation {
     }
     first_orders.push(writer.place());
     writer.put(STOP);
-    // "GOTO s leads to the first order of s, or to the order after the last instruction."
-    for place in writer.gotos {
-        let order = &mut writer.orders[place];
-        order.number = first_orders[order.number as usize - 1];
-    }
+    writer.lead_gotos(&first_orders);
     Translation {
         variables: sheet.variables,
         temporaries: writer.temporaries,
@@ -124,6 +120,14 @@ impl Writer<'_> {
     /// Lets the jump at a place lead to the next order.
     fn lead_here(&mut self, place: usize) {
         self.orders[place].number = self.place();
+    }
+
+    /// "GOTO s leads to the first order of s, or to the order after the last instruction."
+    fn lead_gotos(&mut self, first_orders: &[u32]) {
+        for place in &self.gotos {
+            let order = &mut self.orders[*place];
+            order.number = first_orders[order.number as usize - 1];
+        }
     }
 
     /// The word of a temporary, which is used from now on.

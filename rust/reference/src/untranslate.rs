@@ -128,9 +128,7 @@ impl Reader<'_> {
             match order.name {
                 Name::Load => held.accumulator = Some(self.operand(order, &mut held)?),
                 Name::Str if order.number >= self.first_temporary => {
-                    let temporary = (order.number - self.first_temporary) as usize;
-                    let value = held.accumulator.take()?;
-                    *held.temporaries.get_mut(temporary)? = Some(value);
+                    held.put_away(order.number - self.first_temporary)?;
                 }
                 Name::Str if order.number < LINK_WORDS => return None,
                 Name::Str => {
@@ -197,6 +195,15 @@ struct Held {
     temporaries: [Option<Place>; MOST_TEMPORARIES as usize],
     /// What a CMP has compared.
     compared: Option<(Place, Place)>,
+}
+
+impl Held {
+    /// Puts the accumulator's expression into a temporary.
+    fn put_away(&mut self, temporary: u32) -> Option<()> {
+        let value = self.accumulator.take()?;
+        *self.temporaries.get_mut(temporary as usize)? = Some(value);
+        Some(())
+    }
 }
 
 fn operator_of(name: Name) -> Option<Operator> {
