@@ -75,3 +75,21 @@ fn refusal_in_the_manual_page() {
     let refusal = session.skimp(&["check", "heater.skimp"]).err;
     assert!(page.contains(&refusal), "{refusal}");
 }
+
+/// Each piece in FOLLOW.md stands in the file that was named last before it.
+#[test]
+fn followed_sentence() {
+    let page = text("docs/FOLLOW.md");
+    let (mut file, mut pieces) = (String::new(), 0);
+    for (count, part) in page.split("```\n").enumerate() {
+        if count % 2 == 0 {
+            let names = part.split("Of `").skip(1);
+            let last = names.filter_map(|name| name.split('`').next()).last();
+            file = last.map_or(file, str::to_string);
+        } else {
+            assert!(text(&file).contains(part), "{file} has no\n{part}");
+            pieces += 1;
+        }
+    }
+    assert!(pieces >= 10, "only {pieces} pieces");
+}
