@@ -93,3 +93,14 @@ fn followed_sentence() {
     }
     assert!(pieces >= 10, "only {pieces} pieces");
 }
+
+/// The trace in the manual is the one of document 01's worked object.
+#[test]
+fn trace_in_the_manual() {
+    let session = Session::new();
+    session.put("worked.box", text("examples/worked.box"));
+    let command = "skimp run worked.box --trace --steps 2";
+    let shown = format!("$ {command}\n{}", printed(&session, command));
+    let shown: String = shown.lines().map(|line| format!("    {line}\n")).collect();
+    assert!(text("docs/MANUAL.md").contains(&shown), "{shown}");
+}
