@@ -177,8 +177,12 @@ fn a_jump_after_an_if() {
 #[test]
 fn example_of_the_manual() {
     let source = include_str!("../../../../examples/heater.skimp");
-    let expected = "SHEET 3 6\nSET 2 K118\nSET 3 K110\nSET 4 / * - W2 W3 K10 K2\n\
-                    IF < W2 W3 THEN GOTO 6\nIF > W4 K20 THEN SEND W4 ELSE SEND K0\nSEND W2\n";
+    let expected = "SHEET 7 23\nSET 2 K121\nSET 3 K120\nSET 4 K122\nSET 5 K0\nIF < W8 K8 THEN GOTO 7\n\
+                    IF <= W8 K16 THEN SET 5 / - K16 ** - W8 K12 K2 K3\nSET 2 - - + W2 W5 K1 * K2 W6\n\
+                    IF > W7 K0 THEN SET 7 - W7 K1\nIF = W6 K1 THEN GOTO 16\nIF < W2 W4 THEN GOTO 21\n\
+                    IF > W7 K0 THEN GOTO 21\nSET 6 K1\nSET 7 K3\nSEND + * K1000 W8 W2\nGOTO 21\n\
+                    IF < W2 W3 THEN GOTO 18\nIF > W7 K0 THEN GOTO 21\nSET 6 K0\nSET 7 K2\n\
+                    SEND - NEG * K1000 W8 W2\nSET 8 + W8 K1\nIF < W8 K24 THEN GOTO 4\nSEND W2\n";
     assert_eq!(sheet(source).as_deref(), Ok(expected));
 }
 
