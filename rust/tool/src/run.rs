@@ -12,8 +12,9 @@ const STATE_HEADER: usize = 20;
 const WORD: usize = 4;
 const LINK_WORDS: usize = 2;
 
-const NOT_ENDED_NUMBER: u32 = 0;
-const STOPPED: u32 = 20;
+/// The numbers of a run's reply that are no faults: it goes on, or it stopped.
+pub const GOING: u32 = 0;
+pub const STOPPED: u32 = 20;
 const FIRST_REFUSAL: u32 = 21;
 const BAD_STATE: u32 = 26;
 
@@ -109,7 +110,7 @@ pub fn perform(run: &Run) -> Result<Outcome, Failure> {
     report(&running, reply, before, &mut text);
     let status = match reply.number {
         STOPPED => DONE,
-        NOT_ENDED_NUMBER => NOT_ENDED,
+        GOING => NOT_ENDED,
         _ => FAULTED,
     };
     Ok(Outcome {
@@ -128,7 +129,7 @@ fn steps(running: &mut Running, start: Reply, run: &Run, text: &mut String) -> R
     if run.trace {
         reply = trace::trace(running, start, run.steps, text);
     }
-    if reply.number != NOT_ENDED_NUMBER {
+    if reply.number != GOING {
         return reply;
     }
     let rest = running.go(run.steps - reply.value);
@@ -164,7 +165,7 @@ fn report(running: &Running, reply: Reply, before: usize, text: &mut String) {
 /// How a run ended, in words.
 pub fn ending(number: u32) -> &'static str {
     match number {
-        NOT_ENDED_NUMBER => "not ended, the steps are used up",
+        GOING => "not ended, the steps are used up",
         1 => "fault 1, zero divisor",
         2 => "fault 2, negative exponent",
         3 => "fault 3, shift count outside 0 to 31",

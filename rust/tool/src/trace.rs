@@ -1,21 +1,18 @@
 //! The trace of a run: one line a step.
 
-use crate::run::{ending, Running};
+use crate::run::{ending, Running, GOING, STOPPED};
 use skimp::Reply;
 use std::fmt::Write;
 
 /// The most steps of which a line is written.
 pub const MOST_STEPS: u32 = 10_000;
 
-const NOT_ENDED: u32 = 0;
-const STOPPED: u32 = 20;
-
 /// Goes on step by step, and writes a line of each. Ends with the run, with its budget, or after
 /// `MOST_STEPS`. The reply has the steps taken.
 pub fn trace(running: &mut Running, start: Reply, budget: u32, text: &mut String) -> Reply {
     let mut reply = start;
     *text += "  step order                              ACC\n";
-    while reply.number == NOT_ENDED && reply.value < budget.min(MOST_STEPS) {
+    while reply.number == GOING && reply.value < budget.min(MOST_STEPS) {
         let (order, sent) = (running.next_order(), running.sent());
         // "A fault is met even with no budget left": the reply may be of the order after this one
         let number = running.go(1).number;
@@ -33,14 +30,14 @@ pub fn trace(running: &mut Running, start: Reply, budget: u32, text: &mut String
         *text += &line;
         text.push('\n');
     }
-    if !matches!(reply.number, NOT_ENDED | STOPPED) {
+    if !matches!(reply.number, GOING | STOPPED) {
         let order = running.next_order();
         let record = running.order(order);
         let ending = ending(reply.number);
         writeln!(text, "       {order:>5}  {record:<20} {ending}")
             .expect("a string takes all text");
     }
-    if reply.number == NOT_ENDED && reply.value < budget {
+    if reply.number == GOING && reply.value < budget {
         writeln!(
             text,
             "  the trace ends after {} steps, the run goes on",
