@@ -1,16 +1,16 @@
--- Names: the turns of the loops that compare, find, look up and store them.
-use Prim.Native.Nat.{ℕ, suc, _+_, _-_, _/_, _%_, _<_, _≤_}
-use mathlib.Core.Bool.{true, false}
+-- Names: the turns of the loops that compare, find, look up and store them, and what a row of the table tells.
+use Prim.Native.Nat.{ℕ, zero, suc, _+_, _-_, _*_, _/_, _%_, _<_, _≤_}
+use mathlib.Core.Bool.{Bool, true, false}
 use mathlib.Core.Path.{_≡_, refl, sym, ap, ap₂, _∙_}
 use mathlib.Core.List.{List, [], _∷_, _++_, map}
 use native.Mathlib.Omega.{arith}
 use borrow.Author.Tests.{eq-eqb, ne-eqb}
 use lib.Dec.{eqb}
-use lib.ListN.{length, getD, take, drop, set, drop-of-length-le}
-use lib.Seq.{sets, getD-set-same, getD-set-other}
+use lib.ListN.{length, getD, take, drop, set, length-drop, drop-of-length-le, List·getD-eq-default}
+use lib.Seq.{sets, length-take-le, getD-take, getD-drop, getD-set-same, getD-set-other}
 use Rattle.base.specs.Choice.{pick}
 use Rattle.base.specs.Places.{each}
-use Rattle.base.proofs.Cases.{either-part}
+use Rattle.base.proofs.Cases.{by-test, by-less, by-equal, either-part}
 use Rattle.base.proofs.Lists.{drop-more}
 use Rattle.base.proofs.Places.{each-more, each-over, each-append, each-same, each-map}
 use Rattle.source.specs.declared.Token.{Token}
@@ -18,6 +18,7 @@ use Rattle.source.specs.Tokens.{Lexeme}
 use Rattle.source.specs.Program.{sameName, wordFrom, wordOf, lookedUp}
 use Rattle.source.specs.Memory.{tokenShapes, tokenOf, tokensFrom, lexemeOf, lexemesFrom}
 use Rattle.source.proofs.Stored.{tokens-each, lexemes-each}
+use Rattle.names.specs.Memory.{nameAt}
 
 -- ---- two names
 
@@ -29,20 +30,102 @@ other-length [] (d ∷ b) n = refl
 other-length (c ∷ a) [] n = refl
 other-length (c ∷ a) (d ∷ b) n = either-part (λ r. false ≡ r) (eqb c d) _ _ (λ e. other-length a b (λ z. n (ap suc z))) (λ e. refl)
 
-module _ (a b : List ℕ) (i : ℕ) where
+-- names that have other letters at some place
+pub other-letter : (a b : List ℕ) (k : ℕ) → (getD a k 0 ≡ getD b k 0 → ⊥) → false ≡ sameName a b
+unfolding sameName pick
+other-letter [] [] k n = absurd (n refl)
+other-letter [] (d ∷ b) k n = refl
+other-letter (c ∷ a) [] k n = refl
+other-letter (c ∷ a) (d ∷ b) zero n = rw (ne-eqb c d n) refl
+other-letter (c ∷ a) (d ∷ b) (suc k) n = either-part (λ r. false ≡ r) (eqb c d) _ _ (λ e. other-letter a b k n) (λ e. refl)
+
+both-empty : (a b : List ℕ) → length a ≡ 0 → length b ≡ 0 → true ≡ sameName a b
+unfolding sameName
+both-empty [] [] h g = refl
+both-empty [] (d ∷ b) h g = absurd (omega (arith, g))
+both-empty (c ∷ a) b h g = absurd (omega (arith, h))
+
+same-letter : (a b : List ℕ) → length a ≡ 1 → length b ≡ 1 → getD a 0 0 ≡ getD b 0 0 → true ≡ sameName a b
+unfolding sameName pick
+same-letter [] b h g e = absurd (omega (arith, h))
+same-letter (c ∷ a) [] h g e = absurd (omega (arith, g))
+same-letter (c ∷ a) (d ∷ b) h g e = rw (eq-eqb c d e) (both-empty a b (omega (arith, h)) (omega (arith, g)))
+
+-- what is left to compare counts where no letters differed before it
+abbrev pub sameBehind : ℕ → List ℕ → List ℕ → Bool
+sameBehind other a b = pick (eqb other 0) (sameName a b) false
+
+pub same-start : (a b : List ℕ) → sameBehind 0 a b ≡ sameName a b
+unfolding pick
+same-start a b = refl
+
+module _ (a b : List ℕ) (i other : ℕ) where
   -- both are read to their ends
-  pub same-over : length a ≤ i → length b ≤ i → true ≡ sameName (drop i a) (drop i b)
-  unfolding sameName
-  same-over h g = rw (drop-of-length-le a h, drop-of-length-le b g) refl
+  pub same-over : length a ≤ i → length b ≤ i → eqb other 0 ≡ sameBehind other (drop i a) (drop i b)
+  unfolding sameName pick
+  same-over h g = rw (drop-of-length-le a h, drop-of-length-le b g) (by-test (eqb other 0) (λ t. rw t refl) (λ t. rw t refl))
 
-  module _ (h : i < length a) (g : i < length b) where
-    pub same-other : (getD a i 0 ≡ getD b i 0 → ⊥) → false ≡ sameName (drop i a) (drop i b)
-    unfolding sameName pick
-    same-other n = rw (drop-more a i 0 h, drop-more b i 0 g, ne-eqb _ _ n) refl
+  pub same-turn : i < length a → i < length b
+      → sameBehind (pick (eqb (getD a i 0) (getD b i 0)) other 1) (drop (i + 1) a) (drop (i + 1) b) ≡ sameBehind other (drop i a) (drop i b)
+  unfolding sameName pick
+  same-turn h g =
+      rw (drop-more a i 0 h, drop-more b i 0 g)
+      (by-test (eqb (getD a i 0) (getD b i 0))
+      (λ t. rw t refl)
+      (λ t. rw t (by-test (eqb other 0) (λ z. rw z refl) (λ z. rw z refl))))
 
-    pub same-turn : getD a i 0 ≡ getD b i 0 → sameName (drop (i + 1) a) (drop (i + 1) b) ≡ sameName (drop i a) (drop i b)
-    unfolding sameName pick
-    same-turn e = rw (drop-more a i 0 h, drop-more b i 0 g, eq-eqb _ _ e) refl
+-- ---- a row of the table, whose last byte is q
+
+module _ (l : List ℕ) (i q : ℕ) (e : q ≡ getD l (i * 256 + 255) 0) where
+  abbrev counted : q % 256 ≡ getD l (i * 256 + 255) 0 % 256
+  counted = ap (λ c. c % 256) e
+
+  -- a row that has letters is inside the table
+  row-inside : (q % 256 ≡ 0 → ⊥) → i * 256 + 255 < length l
+  row-inside n =
+      by-less (i * 256 + 255) (length l) (λ h. h) (λ h. absurd (n (ap (λ c. c % 256) (e ∙ List·getD-eq-default l 0 h))))
+
+  row-length : length (take (q % 256) (drop (i * 256) l)) ≡ q % 256
+  row-length =
+      by-equal (q % 256) 0
+      (λ z. rw z refl)
+      (λ n.
+      let h = row-inside n in
+      let m : q % 256 < 256 = omega arith in
+      length-take-le (q % 256) (drop (i * 256) l) (rw (length-drop (i * 256) l) (omega (arith, h, m))))
+
+  module _ (some : q % 256 ≡ 0 → ⊥) where
+    pub letters-inside : i * 256 + q % 256 ≤ length l
+    letters-inside =
+        let h = row-inside some in
+        let m : q % 256 < 256 = omega arith in
+        omega (arith, h, m)
+
+    pub last-inside : i * 256 + (q % 256 - 1) < length l
+    last-inside = let h = letters-inside in omega (arith, h, some)
+
+    last-letter : getD (take (q % 256) (drop (i * 256) l)) (q % 256 - 1) 0 ≡ getD l (i * 256 + (q % 256 - 1)) 0
+    last-letter =
+        getD-take (q % 256) (drop (i * 256) l) (q % 256 - 1) 0 (omega (arith, some)) ∙ getD-drop (i * 256) l (q % 256 - 1) 0
+
+  module _ (n : List ℕ) where
+    pub row-same : (r : Bool) (p : List ℕ) → r ≡ sameName p n → p ≡ take (q % 256) (drop (i * 256) l) → r ≡ sameName (nameAt l i) n
+    row-same r p t m = t ∙ ap (λ s. sameName s n) (m ∙ ap (λ c. take c (drop (i * 256) l)) counted)
+
+    pub row-other-length : (q % 256 ≡ length n → ⊥) → false ≡ sameName (nameAt l i) n
+    row-other-length m = row-same false _ (other-length _ n (λ z. m (sym row-length ∙ z))) refl
+
+    pub row-empty : q % 256 ≡ length n → q % 256 ≡ 0 → true ≡ sameName (nameAt l i) n
+    row-empty m z = row-same true _ (both-empty _ n (row-length ∙ z) (sym m ∙ z)) refl
+
+    module _ (some : q % 256 ≡ 0 → ⊥) where
+      pub row-other-last : (getD l (i * 256 + (q % 256 - 1)) 0 ≡ getD n (q % 256 - 1) 0 → ⊥) → false ≡ sameName (nameAt l i) n
+      row-other-last m = row-same false _ (other-letter _ n (q % 256 - 1) (λ e. m (sym (last-letter some) ∙ e))) refl
+
+      pub row-one-letter : q % 256 ≡ length n → getD l (i * 256 + (q % 256 - 1)) 0 ≡ getD n (q % 256 - 1) 0 → q % 256 - 1 ≡ 0 → true ≡ sameName (nameAt l i) n
+      row-one-letter m e z =
+          let one : q % 256 ≡ 1 = omega (arith, some, z) in
+          row-same true _ (same-letter _ n (row-length ∙ one) (sym m ∙ one) (rw z at (last-letter some ∙ e))) refl
 
 -- ---- finding a name
 

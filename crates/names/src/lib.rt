@@ -5,10 +5,12 @@ use source::TABLE_ROWS;
 ghost use mathlib.Core.Path.{_≡_};
 ghost use Prim.Native.Nat.{_+_, min};
 ghost use mathlib.Core.List.{[], _∷_, map};
+ghost use lib.Dec.{eqb};
 ghost use lib.ListN.{length};
+ghost use Rattle.base.specs.Choice.{pick};
 ghost use Rattle.source.specs.Program.{sameName, wordFrom, wordOf, lookedUp, namesIn};
 ghost use Rattle.source.specs.Memory.{tokenOf, lexemeOf, tokensFrom, lexemesFrom};
-ghost use Rattle.names.specs.Memory.{namesOf};
+ghost use Rattle.names.specs.Memory.{nameAt, namesOf};
 ghost use Rattle.names.specs.Answers.{declaredIn, fit, declaredOf};
 ghost use Rattle.names.specs.Internal.{stored, DeclaresAll, oneIfName, namesAmong};
 
@@ -19,7 +21,17 @@ pub enum Declared {
     Unfit,
 }
 
-// Whether two names are the same.
+// 1 where two letters differ, else what is known of the letters before them.
+fn differing(before: u8, a: u8, b: u8) -> u8
+    ensures { λ r. ⌜ r ≡ pick (eqb a b) before 1 ⌝ }
+{
+    if a == b {
+        return before;
+    }
+    1
+}
+
+// Whether two names are the same. The loop goes over all letters, whatever they are, so that the machine can take many at once.
 fn same_name(a: &[u8], b: &[u8]) -> bool
     ensures { λ r. ⌜ r ≡ sameName (now (a .entry)) (now (b .entry)) ⌝ }
 {
@@ -27,13 +39,35 @@ fn same_name(a: &[u8], b: &[u8]) -> bool
         return false;
     }
     let mut i = 0;
+    let mut other: u8 = 0;
     while i < a.len() {
-        if a[i] != b[i] {
-            return false;
-        }
+        other = differing(other, a[i], b[i]);
         i += 1;
     }
-    true
+    other == 0
+}
+
+// Whether row i holds a name. Most rows that do not have another length or another last letter, so these are compared first.
+fn holds(names: &[u8], i: u8, name: &[u8]) -> bool
+    ensures { λ r. ⌜ r ≡ sameName (nameAt (now (names .entry)) i) (now (name .entry)) ⌝ }
+{
+    let slot = i as usize * 256;
+    let count = base::byte_at(names, slot + 255) as usize % 256;
+    if count != name.len() {
+        return false;
+    }
+    if count == 0 {
+        return true;
+    }
+    let last = count - 1;
+    if names[slot + last] != name[last] {
+        return false;
+    }
+    if last == 0 {
+        return true;
+    }
+    let end = slot + count;
+    same_name(&names[slot..end], name)
 }
 
 // The word of a name among the v variables, or 0.
@@ -42,9 +76,7 @@ fn find(names: &[u8], v: u8, name: &[u8]) -> u32
 {
     let mut i: u8 = 0;
     while i < v {
-        let slot = i as usize * 256;
-        let count = base::byte_at(names, slot + 255) as usize % 256;
-        if same_name(part(names, slot, count), name) {
+        if holds(names, i, name) {
             return i as u32 + 2;
         }
         i += 1;

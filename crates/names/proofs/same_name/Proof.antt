@@ -1,40 +1,24 @@
 use borrow.Author.Needs.{needs}
-use mathlib.Core.Path.{_≡_, refl, _∙_}
+use mathlib.Core.Path.{_≡_, _∙_}
 use Prim.Native.Nat.{_-_}
 use native.Mathlib.Omega.{arith}
 use lib.ListN.{length, drop}
 use Rattle.source.specs.Program.{sameName}
-use Rattle.names.proofs.NameTurns.{other-length, same-over, same-other, same-turn}
+use Rattle.names.proofs.NameTurns.{sameBehind, other-length, same-start, same-over, same-turn}
 use Rattle.names.proofs.same_name.Statement.{statement}
 use Rattle.names.proofs.same_name.Tie as tie
 
 abbrev Inv-loop : tie.InvT-loop
-Inv-loop a b i₀ i = (length a ≡ length b) × (sameName (drop i a) (drop i b) ≡ sameName a b)
+Inv-loop a b i₀ other₀ i other = (length a ≡ length b) × (sameBehind other (drop i a) (drop i b) ≡ sameName a b)
 
 abbrev μ-loop : tie.MeasureT-loop
-μ-loop a b i₀ i = length a - i
+μ-loop a b i₀ other₀ i other = length a - i
 
 returns : tie.Need-returns Inv-loop μ-loop
 returns c = other-length _ _ (c .if1 .taken)
 
 loop-holds : tie.Need-loop-holds Inv-loop μ-loop
-loop-holds c = (c .if1 .left, refl)
-
-shared-slice-read-if2 : tie.Need-shared-slice-read-if2 Inv-loop μ-loop
-shared-slice-read-if2 c = search needs
-
-shared-slice-read-if2-2 : tie.Need-shared-slice-read-if2-2 Inv-loop μ-loop
-shared-slice-read-if2-2 c = search needs
-
-returns-2 : tie.Need-returns-2 Inv-loop μ-loop
-returns-2 c =
-    let l = c .before .before .before .before .loop in
-    let e = l .inv .0 in
-    let t = c .before .before .before .loop-test .taken in
-    rw (← l .inv .1) (same-other _ _ _ t (omega (arith, e, t)) (c .if2 .taken))
-
-add-i : tie.Need-add-i Inv-loop μ-loop
-add-i c = search needs
+loop-holds c = (c .if1 .left, same-start _ _)
 
 loop-less : tie.Need-loop-less Inv-loop μ-loop
 loop-less c = omega arith
@@ -44,15 +28,16 @@ loop-again c =
     let l = c .before .before .before .before .loop in
     let e = l .inv .0 in
     let t = c .before .before .before .loop-test .taken in
-    (e, same-turn _ _ _ t (omega (arith, e, t)) (c .if2 .left) ∙ l .inv .1)
+    let a = c .before .before .before .before .before .before .before .before .args in
+    (e, rw (c .differing .ensures) (same-turn (a .a .now) (a .b .now) (l .i) (l .other) t (omega (arith, e, t))) ∙ l .inv .1)
 
-returns-3 : tie.Need-returns-3 Inv-loop μ-loop
-returns-3 c =
+returns-2 : tie.Need-returns-2 Inv-loop μ-loop
+returns-2 c =
     let l = c .before .loop in
     let e = l .inv .0 in
-    let a = c .before .before .before .args in
+    let a = c .before .before .before .before .before .args in
     let t = c .loop-test .left in
-    rw (← l .inv .1) (same-over (a .a .now) (a .b .now) (l .i) t (omega (arith, e, t)))
+    rw (← l .inv .1) (same-over (a .a .now) (a .b .now) (l .i) (l .other) t (omega (arith, e, t)))
 
 pub same-name-spec : {M : Type 1} → statement M
 same-name-spec =
@@ -62,10 +47,10 @@ same-name-spec =
     μ-loop
     returns
     loop-holds
-    shared-slice-read-if2
-    shared-slice-read-if2-2
-    returns-2
-    add-i
+    (λ c. search needs)
+    (λ c. search needs)
+    (λ c κs. search needs)
+    (λ c. search needs)
     loop-less
     loop-again
-    returns-3)
+    returns-2)
