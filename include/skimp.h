@@ -76,13 +76,13 @@ enum skimp_run_number {
 /* The stack that a call needs: its own frame and all below it. These numbers are not proved but measured, on the inputs found
  * to need most and the archive built for x86-64, with a tenth more and rounded up to a KiB. Compile and read-back work
  * recursively. Compile needs most, some 194,000 bytes, for brackets opened up to the last cell of a statement; read-back needs
- * most, some 331,000 bytes, for 1,022 orders such as NEG in a row. A run needs some 6,500 bytes whatever the object. A task that
+ * most, some 335,000 bytes, for 1,022 orders such as NEG in a row. A run needs some 6,200 bytes whatever the object. A task that
  * makes a call must have a stack of as many bytes to spare. */
 #define SKIMP_COMPILE_STACK_BYTES 214016
-#define SKIMP_READ_BACK_STACK_BYTES 364544
+#define SKIMP_READ_BACK_STACK_BYTES 368640
 #define SKIMP_RUN_STACK_BYTES 7168
 /* enough for every call */
-#define SKIMP_STACK_BYTES 364544
+#define SKIMP_STACK_BYTES 368640
 
 /* Compiles a source: writes the text of its object into the front of `object`.
  *

@@ -48,7 +48,7 @@ pub const SHEET_MOST: usize = 32_768;
 
 /// A stack of so many bytes is enough for a call, as measured on its worst inputs, with a tenth more.
 pub const COMPILE_STACK_BYTES: usize = 209 * 1024;
-pub const READ_BACK_STACK_BYTES: usize = 356 * 1024;
+pub const READ_BACK_STACK_BYTES: usize = 360 * 1024;
 pub const RUN_STACK_BYTES: usize = 7 * 1024;
 /// A stack of so many bytes is enough for every call.
 pub const STACK_BYTES: usize = READ_BACK_STACK_BYTES;
