@@ -138,65 +138,68 @@ fn manual_page() {
     assert_eq!(options(&page), options(&help));
 }
 
+/// Arguments, and how the message begins.
+const BAD_ARGUMENTS: [(&[&str], &str); 18] = [
+    (
+        &["chekc", "a.skimp"],
+        "chekc is no command\nusage: skimp check SOURCE",
+    ),
+    (&[], "no command\nusage: skimp check SOURCE"),
+    (&["check"], "check takes one SOURCE; see skimp help check"),
+    (
+        &["check", "a.skimp", "a.skimp"],
+        "check takes one SOURCE; see skimp help check",
+    ),
+    (
+        &["compare", "a.skimp"],
+        "compare takes a SOURCE and an OBJECT; see skimp help compare",
+    ),
+    (
+        &["compare", "-", "-"],
+        "only one of the two can be standard input",
+    ),
+    (&["help", "me"], "me is no command"),
+    (
+        &["check", "-o", "b", "a.skimp"],
+        "check does not take -o; see skimp help check",
+    ),
+    (&["run", "a.box", "--room"], "--room wants a value"),
+    (&["run", "a.box", "--trace=1"], "--trace takes no value"),
+    (
+        &["run", "a.box", "--steps", "1", "--steps=2"],
+        "--steps is given twice",
+    ),
+    (
+        &["run", "a.box", "--steps", "-1"],
+        "--steps wants a number from 0 to 4294967295, not -1",
+    ),
+    (
+        &["run", "a.box", "--steps", "+1"],
+        "--steps wants a number from 0 to 4294967295, not +1",
+    ),
+    (
+        &["run", "a.box", "--steps="],
+        "--steps wants a number from 0 to 4294967295, not ",
+    ),
+    (
+        &["run", "a.box", "--steps", "4294967296"],
+        "--steps wants a number from 0 to 4294967295, not 4294967296",
+    ),
+    (
+        &["run", "a.box", "--room", "16777217"],
+        "--room wants a number from 0 to 16777216, not 16777217",
+    ),
+    (
+        &["check", "none.skimp"],
+        "none.skimp: No such file or directory (os error 2)",
+    ),
+    (&["check", "."], ".: Is a directory (os error 21)"),
+];
+
 #[test]
 fn bad_arguments() {
     let session = session();
-    for (arguments, words) in [
-        (
-            &["chekc", "a.skimp"][..],
-            "chekc is no command\nusage: skimp check SOURCE",
-        ),
-        (&[][..], "no command\nusage: skimp check SOURCE"),
-        (&["check"], "check takes one SOURCE; see skimp help check"),
-        (
-            &["check", "a.skimp", "a.skimp"],
-            "check takes one SOURCE; see skimp help check",
-        ),
-        (
-            &["compare", "a.skimp"],
-            "compare takes a SOURCE and an OBJECT; see skimp help compare",
-        ),
-        (
-            &["compare", "-", "-"],
-            "only one of the two can be standard input",
-        ),
-        (&["help", "me"], "me is no command"),
-        (
-            &["check", "-o", "b", "a.skimp"],
-            "check does not take -o; see skimp help check",
-        ),
-        (&["run", "a.box", "--room"], "--room wants a value"),
-        (&["run", "a.box", "--trace=1"], "--trace takes no value"),
-        (
-            &["run", "a.box", "--steps", "1", "--steps=2"],
-            "--steps is given twice",
-        ),
-        (
-            &["run", "a.box", "--steps", "-1"],
-            "--steps wants a number from 0 to 4294967295, not -1",
-        ),
-        (
-            &["run", "a.box", "--steps", "+1"],
-            "--steps wants a number from 0 to 4294967295, not +1",
-        ),
-        (
-            &["run", "a.box", "--steps="],
-            "--steps wants a number from 0 to 4294967295, not ",
-        ),
-        (
-            &["run", "a.box", "--steps", "4294967296"],
-            "--steps wants a number from 0 to 4294967295, not 4294967296",
-        ),
-        (
-            &["run", "a.box", "--room", "16777217"],
-            "--room wants a number from 0 to 16777216, not 16777217",
-        ),
-        (
-            &["check", "none.skimp"],
-            "none.skimp: No such file or directory (os error 2)",
-        ),
-        (&["check", "."], ".: Is a directory (os error 21)"),
-    ] {
+    for (arguments, words) in BAD_ARGUMENTS {
         let ran = session.skimp(arguments);
         assert_eq!(ran.status, Some(2), "{arguments:?}");
         assert_eq!(ran.out, "", "{arguments:?}");

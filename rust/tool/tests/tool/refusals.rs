@@ -3,66 +3,75 @@
 use crate::session::{said, Session};
 
 /// Sources, and what is said of them behind the file's name.
-fn sources() -> Vec<(u32, Vec<u8>, &'static str)> {
-    let text = |source: &str| source.as_bytes().to_vec();
+const SOURCES: [(u32, &str, &str); 9] = [
+    (
+        2,
+        "%BEGIN\nA\t= 1\n",
+        ":2: byte 8, column 2, is 9: byte not allowed [2]\n    A\t= 1",
+    ),
+    (
+        3,
+        "%BEGIN\n\n  SEND('A\n",
+        ":3: statement 2: source ends in quotes or in a continuation [3]\n    SEND('A",
+    ),
+    (
+        5,
+        "%BEGIN\n%INTEGER A; %INTERGER B\n",
+        ":2: statement 3: unknown keyword [5]\n    %INTERGER B",
+    ),
+    (
+        6,
+        "! note\n%BEGIN\nSEND(2147483648)\n%ENDOFPROGRAM\n",
+        ":3: statement 2: constant invalid [6]\n    SEND(2147483648)",
+    ),
+    (
+        7,
+        "%BEGIN\n%INTEGER A\nA = %C\n  3 *%C\n -A\n%ENDOFPROGRAM\n",
+        ":3: statement 3: no such form, or out of order [7]\n    A = %C\n      3 *%C\n     -A",
+    ),
+    (
+        8,
+        "%BEGIN;%INTEGER A;A=B;%ENDOFPROGRAM",
+        ":1: statement 3: name unknown, declared twice, or SEND misused [8]\n    A=B",
+    ),
+    (
+        9,
+        "%BEGIN\n->7\n->8\n7:\n%ENDOFPROGRAM\n",
+        ":3: statement 3: label 0 or over 9999, set twice, or never set [9]\n    ->8",
+    ),
+    (
+        10,
+        "%BEGIN\nSEND(1)\n! the end is cut of",
+        ":2: statement 2, the last: no %ENDOFPROGRAM [10]\n    SEND(1)",
+    ),
+    (10, "", ": no statement was read: no %ENDOFPROGRAM [10]"),
+];
+
+/// The same with sources that are long, or no text.
+fn long_sources() -> [(u32, Vec<u8>, String); 4] {
     let labels: String = (1..=65).map(|label| format!("{label}:\n")).collect();
-    vec![
-        (1, vec![b' '; 16_385], ": source too long [1]"),
-        (
-            2,
-            text("%BEGIN\nA\t= 1\n"),
-            ":2: byte 8, column 2, is 9: byte not allowed [2]\n    A\t= 1",
-        ),
+    let limits = "over 64 variables, 64 set labels, 32 temporaries, or 1,024 orders with STOP";
+    let sum = "1+".repeat(150);
+    [
+        (1, vec![b' '; 16_385], ": source too long [1]".to_string()),
         (
             2,
             b"%BEGIN\n; ! caf\xe9".to_vec(),
-            ":2: byte 14, column 8, is 233: byte not allowed [2]\n    ; ! caf\\xe9",
-        ),
-        (
-            3,
-            text("%BEGIN\n\n  SEND('A\n"),
-            ":3: statement 2: source ends in quotes or in a continuation [3]\n    SEND('A",
+            ":2: byte 14, column 8, is 233: byte not allowed [2]\n    ; ! caf\\xe9".to_string(),
         ),
         (
             4,
-            text(&format!("%BEGIN\nSEND({})\n", "1+".repeat(150))),
-            ":2: statement 2: more than 256 cells [4]\n    SEND(1+1+1+1+1+1+1+1+1+1+1+1+1+1+1+1+1+1+1+1+1+1+1+1+1+1+1+1+1+1+1+1+1+1+1+1+1+1+1+1+1+1+1+1+1+1+1+1+1+1+1+1+1+1+1+1+1+1+1+1+1+1+1+1+1+1+1+1+1+1+1+1+1+1+1+1+1+1 ..",
+            format!("%BEGIN\nSEND({sum})\n").into_bytes(),
+            // 160 characters are shown
+            format!(
+                ":2: statement 2: more than 256 cells [4]\n    SEND({} ..",
+                &sum[..155]
+            ),
         ),
-        (
-            5,
-            text("%BEGIN\n%INTEGER A; %INTERGER B\n"),
-            ":2: statement 3: unknown keyword [5]\n    %INTERGER B",
-        ),
-        (
-            6,
-            text("! note\n%BEGIN\nSEND(2147483648)\n%ENDOFPROGRAM\n"),
-            ":3: statement 2: constant invalid [6]\n    SEND(2147483648)",
-        ),
-        (
-            7,
-            text("%BEGIN\n%INTEGER A\nA = %C\n  3 *%C\n -A\n%ENDOFPROGRAM\n"),
-            ":3: statement 3: no such form, or out of order [7]\n    A = %C\n      3 *%C\n     -A",
-        ),
-        (
-            8,
-            text("%BEGIN;%INTEGER A;A=B;%ENDOFPROGRAM"),
-            ":1: statement 3: name unknown, declared twice, or SEND misused [8]\n    A=B",
-        ),
-        (
-            9,
-            text("%BEGIN\n->7\n->8\n7:\n%ENDOFPROGRAM\n"),
-            ":3: statement 3: label 0 or over 9999, set twice, or never set [9]\n    ->8",
-        ),
-        (
-            10,
-            text("%BEGIN\nSEND(1)\n! the end is cut of"),
-            ":2: statement 2, the last: no %ENDOFPROGRAM [10]\n    SEND(1)",
-        ),
-        (10, Vec::new(), ": no statement was read: no %ENDOFPROGRAM [10]"),
         (
             11,
-            text(&format!("%BEGIN\n{labels}%ENDOFPROGRAM\n")),
-            ":66: statement 66: over 64 variables, 64 set labels, 32 temporaries, or 1,024 orders with STOP [11]\n    65:",
+            format!("%BEGIN\n{labels}%ENDOFPROGRAM\n").into_bytes(),
+            format!(":66: statement 66: {limits} [11]\n    65:"),
         ),
     ]
 }
@@ -71,8 +80,10 @@ fn sources() -> Vec<(u32, Vec<u8>, &'static str)> {
 #[test]
 fn of_sources() {
     let session = Session::new();
+    let texts = SOURCES
+        .map(|(number, source, words)| (number, source.as_bytes().to_vec(), words.to_string()));
     let mut numbers = Vec::new();
-    for (number, source, words) in sources() {
+    for (number, source, words) in texts.into_iter().chain(long_sources()) {
         numbers.push(number);
         session.put("a.skimp", &source);
         let refusal = said(1, &format!("a.skimp{words}"));
@@ -82,6 +93,7 @@ fn of_sources() {
         assert_eq!(session.skimp_with(&["compile", "-"], &source), refusal);
         assert!(words.contains(&format!(" [{number}]")));
     }
+    numbers.sort_unstable();
     numbers.dedup();
     assert_eq!(numbers, [1, 2, 3, 4, 5, 6, 7, 8, 9, 10, 11]);
 }

@@ -138,11 +138,12 @@ fn bad_states() {
     );
 }
 
+const TRACED: &str = "%BEGIN\n%INTEGER N\n1: N = 3 - (N + 1)\n\
+                      %IF N > 1 %THEN ->1\nSEND(-N)\n%ENDOFPROGRAM\n";
+
 #[test]
-fn trace() {
-    let session = session(
-        "%BEGIN\n%INTEGER N\n1: N = 3 - (N + 1)\n%IF N > 1 %THEN ->1\nSEND(-N)\n%ENDOFPROGRAM\n",
-    );
+fn trace_of_some_steps() {
+    let session = session(TRACED);
     let ran = session.skimp(&["run", "a.box", "--trace", "--steps", "12"]);
     let lines = [
         "  step order                              ACC",
@@ -165,6 +166,11 @@ fn trace() {
         "",
     ];
     assert_eq!(ran, ended(4, &lines.join("\n")));
+}
+
+#[test]
+fn trace_to_the_end() {
+    let session = session(TRACED);
     let ran = session.skimp(&["run", "a.box", "--trace"]);
     let rows: Vec<_> = ran.out.lines().skip(23).take(5).collect();
     let lines = [
