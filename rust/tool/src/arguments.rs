@@ -156,6 +156,9 @@ impl Options {
 
 /// The command of a name with its files and options.
 fn command(name: &str, names: &[OsString], options: Options) -> Result<Command, Failure> {
+    if options.state.as_deref() == Some(OsStr::new("-")) {
+        return failed("--state wants a file");
+    }
     let output = || Place::of(options.output.as_deref().unwrap_or(OsStr::new("-")));
     let room = |most| number("--room", options.room.as_deref(), most);
     match (name, names) {

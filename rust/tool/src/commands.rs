@@ -12,12 +12,16 @@ pub fn perform(command: Command) -> Result<Outcome, Failure> {
             source,
             output,
             room,
-        } => Ok(written(output, compile(&source, room)?)),
+        } => {
+            hold_apart(&source, &output)?;
+            Ok(written(output, compile(&source, room)?))
+        }
         Command::ReadBack {
             object,
             output,
             room,
         } => {
+            hold_apart(&object, &output)?;
             let text = files::read(&object)?;
             let sheet = read_back(&object.to_string(), &text, room)?;
             Ok(written(output, sheet))
@@ -34,6 +38,15 @@ pub fn printed(text: String) -> Outcome {
         file: None,
         status: DONE,
     }
+}
+
+/// A slip of `-o` must not cost the file that is read.
+fn hold_apart(input: &Place, output: &Place) -> Result<(), Failure> {
+    if input.is_same(output) {
+        let message = format!("{output} is read, so it cannot be written to");
+        return Err(Failure::Failed(message));
+    }
+    Ok(())
 }
 
 fn written(place: Place, bytes: Vec<u8>) -> Outcome {

@@ -23,6 +23,21 @@ impl Place {
     }
 }
 
+impl Place {
+    /// Whether both are one file.
+    pub fn is_same(&self, other: &Place) -> bool {
+        match (self, other) {
+            (Place::Path(one), Place::Path(two)) => {
+                match (fs::canonicalize(one), fs::canonicalize(two)) {
+                    (Ok(one), Ok(two)) => one == two && one.is_file(),
+                    _ => false,
+                }
+            }
+            _ => false,
+        }
+    }
+}
+
 impl fmt::Display for Place {
     fn fmt(&self, formatter: &mut fmt::Formatter<'_>) -> fmt::Result {
         match self {
@@ -68,7 +83,10 @@ pub fn read_if_there(path: &Path) -> Result<Option<Vec<u8>>, Failure> {
 pub fn print(bytes: &[u8]) -> Result<(), Failure> {
     let mut output = io::stdout().lock();
     let written = output.write_all(bytes).and_then(|()| output.flush());
-    written.map_err(|error| failed("standard output", &error))
+    written.map_err(|error| match error.kind() {
+        io::ErrorKind::BrokenPipe => Failure::Unread,
+        _ => failed("standard output", &error),
+    })
 }
 
 /// Writes a file whole, or leaves what there is.

@@ -41,6 +41,8 @@ enum Failure {
     Refused(String),
     /// A file cannot be read or written, or an argument is wrong.
     Failed(String),
+    /// Nobody reads standard output any more, so there is nobody to tell.
+    Unread,
 }
 
 /// Does what the arguments ask, and gives the exit status.
@@ -52,6 +54,7 @@ pub fn main(arguments: impl Iterator<Item = OsString>) -> u8 {
         Ok(status) => return status,
         Err(Failure::Refused(message)) => (message, REFUSED),
         Err(Failure::Failed(message)) => (format!("skimp: {message}"), FAILED),
+        Err(Failure::Unread) => return FAILED,
     };
     // where standard error is closed, the status alone tells
     let _ = writeln!(io::stderr(), "{message}");

@@ -139,7 +139,7 @@ fn manual_page() {
 }
 
 /// Arguments, and how the message begins.
-const BAD_ARGUMENTS: [(&[&str], &str); 18] = [
+const BAD_ARGUMENTS: [(&[&str], &str); 20] = [
     (
         &["chekc", "a.skimp"],
         "chekc is no command\nusage: skimp check SOURCE",
@@ -188,6 +188,11 @@ const BAD_ARGUMENTS: [(&[&str], &str); 18] = [
     (
         &["run", "a.box", "--room", "16777217"],
         "--room wants a number from 0 to 16777216, not 16777217",
+    ),
+    (&["run", "a.box", "--state", "-"], "--state wants a file"),
+    (
+        &["compile", "a.skimp", "-o", "./a.skimp"],
+        "./a.skimp is read, so it cannot be written to",
     ),
     (
         &["check", "none.skimp"],

@@ -29,6 +29,7 @@ fn left_alone() {
         (&["compile", "none.skimp", "-o", "kept"], 2),
         (&["compile", "good.skimp", "-o", "kept", "--rom", "5"], 2),
         (&["readback", "bad.box", "-o", "kept"], 1),
+        (&["compile", "kept", "-o", "kept"], 2),
         (&["run", "bad.box", "--state", "kept"], 1),
     ] {
         assert_eq!(

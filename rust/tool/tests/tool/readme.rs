@@ -1,9 +1,7 @@
 //! What the documents show is what there is.
 
-use crate::session::{repository, Session, SKIMP};
+use crate::session::{printed, repository, Session};
 use std::fs;
-use std::path::Path;
-use std::process::Command;
 
 fn text(name: &str) -> String {
     fs::read_to_string(repository(name)).expect("a file")
@@ -23,18 +21,6 @@ fn commands(readme: &str) -> Vec<(&str, String)> {
         }
     }
     commands
-}
-
-/// What a command prints on both outputs, with the tool under its name.
-fn printed(session: &Session, command: &str) -> String {
-    let folder = Path::new(SKIMP).parent().expect("a folder").display();
-    let path = std::env::var("PATH").expect("a path");
-    let output = Command::new("sh")
-        .args(["-c", &format!("exec 2>&1; {command}")])
-        .env("PATH", format!("{folder}:{path}"))
-        .current_dir(&session.folder)
-        .output();
-    String::from_utf8(output.expect("its end").stdout).expect("text")
 }
 
 #[test]

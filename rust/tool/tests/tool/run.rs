@@ -1,6 +1,6 @@
 //! Runs: what is sent, the steps, the ending, the state file and the trace.
 
-use crate::session::{done, repository, said, Ran, Session};
+use crate::session::{done, printed, repository, said, Ran, Session};
 use std::fs;
 
 /// A session with the object of a source.
@@ -227,4 +227,14 @@ fn bounded_trace() {
     // none goes on behind a trace of all steps
     let ran = session.skimp(&["run", "a.box", "--trace", "--steps", "10000"]);
     assert!(!ran.out.contains("the trace ends"));
+}
+
+/// Who reads the first lines alone gets these, and no complaint.
+#[test]
+fn read_in_part() {
+    let session = session("%BEGIN\n%INTEGER N\n1: N = N + 1\n->1\n%ENDOFPROGRAM\n");
+    let lines = printed(&session, "skimp run a.box --trace | head -n 2");
+    let shown = "  step order                              ACC\n\
+                 \x20    1     0  LOAD D 2                       0\n";
+    assert_eq!(lines, shown);
 }

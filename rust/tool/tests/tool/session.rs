@@ -115,6 +115,18 @@ pub fn said(status: i32, err: &str) -> Ran {
     }
 }
 
+/// What a command prints on both outputs, with the tool under its name.
+pub fn printed(session: &Session, command: &str) -> String {
+    let folder = Path::new(SKIMP).parent().expect("a folder").display();
+    let path = std::env::var("PATH").expect("a path");
+    let output = Command::new("sh")
+        .args(["-c", &format!("exec 2>&1; {command}")])
+        .env("PATH", format!("{folder}:{path}"))
+        .current_dir(&session.folder)
+        .output();
+    String::from_utf8(output.expect("its end").stdout).expect("text")
+}
+
 /// A file of the repository.
 pub fn repository(name: &str) -> PathBuf {
     Path::new(env!("CARGO_MANIFEST_DIR"))
