@@ -4,6 +4,7 @@ use mathlib.Core.Bool.{Bool, true, false}
 use mathlib.Core.Path.{_≡_, refl, sym, ap, ap₂, _∙_}
 use mathlib.Core.List.{List, [], _∷_, _++_, map}
 use native.Mathlib.Omega.{arith}
+use native.Mathlib.Nat.{add-zero}
 use borrow.Author.Tests.{eq-eqb, ne-eqb}
 use lib.Dec.{eqb}
 use lib.ListN.{length, getD, take, drop, set, length-drop, drop-of-length-le, List·getD-eq-default}
@@ -104,9 +105,11 @@ module _ (l : List ℕ) (i q : ℕ) (e : q ≡ getD l (i * 256 + 255) 0) where
     pub last-inside : i * 256 + (q % 256 - 1) < length l
     last-inside = let h = letters-inside in omega (arith, h, some)
 
-    last-letter : getD (take (q % 256) (drop (i * 256) l)) (q % 256 - 1) 0 ≡ getD l (i * 256 + (q % 256 - 1)) 0
-    last-letter =
-        getD-take (q % 256) (drop (i * 256) l) (q % 256 - 1) 0 (omega (arith, some)) ∙ getD-drop (i * 256) l (q % 256 - 1) 0
+    pub first-inside : i * 256 < length l
+    first-inside = let h = letters-inside in omega (arith, h, some)
+
+  letter : (k : ℕ) → k < q % 256 → getD (take (q % 256) (drop (i * 256) l)) k 0 ≡ getD l (i * 256 + k) 0
+  letter k h = getD-take (q % 256) (drop (i * 256) l) k 0 h ∙ getD-drop (i * 256) l k 0
 
   module _ (n : List ℕ) where
     pub row-same : (r : Bool) (p : List ℕ) → r ≡ sameName p n → p ≡ take (q % 256) (drop (i * 256) l) → r ≡ sameName (nameAt l i) n
@@ -118,14 +121,20 @@ module _ (l : List ℕ) (i q : ℕ) (e : q ≡ getD l (i * 256 + 255) 0) where
     pub row-empty : q % 256 ≡ length n → q % 256 ≡ 0 → true ≡ sameName (nameAt l i) n
     row-empty m z = row-same true _ (both-empty _ n (row-length ∙ z) (sym m ∙ z)) refl
 
+    row-other-letter : (k : ℕ) → k < q % 256 → (getD l (i * 256 + k) 0 ≡ getD n k 0 → ⊥) → false ≡ sameName (nameAt l i) n
+    row-other-letter k h m = row-same false _ (other-letter _ n k (λ e. m (sym (letter k h) ∙ e))) refl
+
     module _ (some : q % 256 ≡ 0 → ⊥) where
       pub row-other-last : (getD l (i * 256 + (q % 256 - 1)) 0 ≡ getD n (q % 256 - 1) 0 → ⊥) → false ≡ sameName (nameAt l i) n
-      row-other-last m = row-same false _ (other-letter _ n (q % 256 - 1) (λ e. m (sym (last-letter some) ∙ e))) refl
+      row-other-last = row-other-letter (q % 256 - 1) (omega (arith, some))
+
+      pub row-other-first : (getD l (i * 256) 0 ≡ getD n 0 0 → ⊥) → false ≡ sameName (nameAt l i) n
+      row-other-first m = row-other-letter 0 (omega (arith, some)) (rw (add-zero (i * 256)) m)
 
       pub row-one-letter : q % 256 ≡ length n → getD l (i * 256 + (q % 256 - 1)) 0 ≡ getD n (q % 256 - 1) 0 → q % 256 - 1 ≡ 0 → true ≡ sameName (nameAt l i) n
       row-one-letter m e z =
           let one : q % 256 ≡ 1 = omega (arith, some, z) in
-          row-same true _ (same-letter _ n (row-length ∙ one) (sym m ∙ one) (rw z at (last-letter some ∙ e))) refl
+          row-same true _ (same-letter _ n (row-length ∙ one) (sym m ∙ one) (rw z at (letter (q % 256 - 1) (omega (arith, some)) ∙ e))) refl
 
 -- ---- finding a name
 

@@ -47,7 +47,7 @@ fn same_name(a: &[u8], b: &[u8]) -> bool
     other == 0
 }
 
-// Whether row i holds a name. Most rows that do not have another length or another last letter, so these are compared first.
+// Whether row i holds a name. Most rows that do not have another length, last letter or first letter: these are compared first.
 fn holds(names: &[u8], i: u8, name: &[u8]) -> bool
     ensures { λ r. ⌜ r ≡ sameName (nameAt (now (names .entry)) i) (now (name .entry)) ⌝ }
 {
@@ -65,6 +65,9 @@ fn holds(names: &[u8], i: u8, name: &[u8]) -> bool
     }
     if last == 0 {
         return true;
+    }
+    if names[slot] != name[0] {
+        return false;
     }
     let end = slot + count;
     same_name(&names[slot..end], name)
