@@ -1,4 +1,5 @@
-//! The statement that is shown is the one that was counted.
+//! The statement that is shown is the one that was counted: by the archive, which is proved, and by
+//! the reference, whose reading of bytes `statement` is close to.
 
 use skimp_reference::random::Random;
 use skimp_reference::source::cells::Statements;
@@ -74,4 +75,44 @@ fn random() {
         }
     }
     assert!(count > 100_000, "{count} statements are too few");
+}
+
+/// How many statements the archive reads of an accepted source: each one, as it was found, gives
+/// way to an unknown keyword, and the archive must refuse just that one. Those behind
+/// `%ENDOFPROGRAM` are not read, so there it accepts.
+fn counted_by_the_archive(source: &[u8]) -> u32 {
+    let mut buffer = vec![0; skimp::OBJECT_MOST];
+    let (mut number, mut refused) = (1, 0);
+    while let Some(found) = statement::find(source, number) {
+        let start = found.text.as_ptr() as usize - source.as_ptr() as usize;
+        let behind = &source[start + found.text.len()..];
+        let changed = [&source[..start], b"%X", behind].concat();
+        match skimp::compile(&changed, &mut buffer) {
+            Err(refusal) => {
+                assert_eq!((refusal.number, refusal.place), (5, number), "{source:?}");
+                assert_eq!(refused, number - 1, "{source:?}");
+                refused = number;
+            }
+            Ok(_) => assert!(refused > 0, "{source:?}"),
+        }
+        number += 1;
+    }
+    refused
+}
+
+#[test]
+fn by_the_archive() {
+    let mut random = Random(20_261_117);
+    let mut buffer = vec![0; skimp::OBJECT_MOST];
+    let (mut sources, mut statements) = (0, 0);
+    for _ in 0..6_000 {
+        let (_, source) = writing::source(&mut random);
+        // room for the change
+        if source.len() < 16_000 && skimp::compile(&source, &mut buffer).is_ok() {
+            sources += 1;
+            statements += counted_by_the_archive(&source);
+        }
+    }
+    assert!(sources > 1_000, "{sources} sources are too few");
+    assert!(statements > 10_000, "{statements} statements are too few");
 }
