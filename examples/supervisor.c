@@ -73,8 +73,9 @@ static const char *refusal(uint32_t number) {
     case SKIMP_BAD_NAME: return "name unknown, declared twice, or SEND misused, statement";
     case SKIMP_BAD_LABEL: return "label out of range, set twice, or never set, statement";
     case SKIMP_NO_END: return "no %ENDOFPROGRAM, statements read";
-    case SKIMP_OVER_LIMIT: return "over 64 variables, 64 labels, 32 temporaries or 1,024 orders, statement";
+    case SKIMP_OVER_LIMIT: return "over 64 variables, 64 labels, 16 levels, 32 temporaries or 1,024 orders, statement";
     case SKIMP_OBJECT_TOO_SHORT: return "the buffer is too short for the object, place";
+    case SKIMP_BAD_GROUP: return "a group is left open, or %FINISH closes none, statement";
     case SKIMP_BAD_HEADER: return "the header is not of the form or over a limit, place";
     case SKIMP_BAD_LINE: return "not exactly as many good lines as the header says, line";
     case SKIMP_BAD_WORD: return "a word outside the frame, order";

@@ -34,6 +34,7 @@ enum skimp_text_number {
     SKIMP_NO_END = 10,
     SKIMP_OVER_LIMIT = 11,
     SKIMP_OBJECT_TOO_SHORT = 12,
+    SKIMP_BAD_GROUP = 13,
     SKIMP_NO_SHEET = 31,
     SKIMP_SHEET_TOO_SHORT = 32
 };
@@ -75,14 +76,14 @@ enum skimp_run_number {
 
 /* The stack that a call needs: its own frame and all below it. These numbers are not proved but measured, on the inputs found
  * to need most and the archive built for x86-64, with a tenth more and rounded up to a KiB. Compile and read-back work
- * recursively. Compile needs most, some 194,000 bytes, for brackets opened up to the last cell of a statement; read-back needs
- * most, some 335,000 bytes, for 1,022 orders such as NEG in a row. A run needs some 6,200 bytes whatever the object. A task that
- * makes a call must have a stack of as many bytes to spare. */
-#define SKIMP_COMPILE_STACK_BYTES 214016
-#define SKIMP_READ_BACK_STACK_BYTES 368640
-#define SKIMP_RUN_STACK_BYTES 7168
+ * recursively. Compile needs most, some 169,000 bytes, for brackets opened up to the last cell of a statement; read-back needs
+ * most, some 50,000 bytes, for an expression of many temporaries inside groups. A run needs some 9,200 bytes whatever the
+ * object. A task that makes a call must have a stack of as many bytes to spare. */
+#define SKIMP_COMPILE_STACK_BYTES 186368
+#define SKIMP_READ_BACK_STACK_BYTES 55296
+#define SKIMP_RUN_STACK_BYTES 10240
 /* enough for every call */
-#define SKIMP_STACK_BYTES 368640
+#define SKIMP_STACK_BYTES 186368
 
 /* Compiles a source: writes the text of its object into the front of `object`.
  *
@@ -96,12 +97,13 @@ enum skimp_run_number {
  *    4  a statement holds more than 256 cells: the statement
  *    5  unknown keyword: the statement
  *    6  invalid constant: the statement
- *    7  no such form, or out of order: the statement
+ *    7  no such form, or out of order, or a group with no instruction: the statement
  *    8  a name is unknown, declared twice, or SEND is misused: the statement
  *    9  a label is 0 or over 9999, set twice, or never set: the statement; for one that is never set, that of the first jump
  *   10  there is no %ENDOFPROGRAM: the number of statements read
- *   11  over 64 variables, 64 set labels, 32 temporaries, or 1,024 orders with STOP: the statement
+ *   11  over 64 variables, 64 set labels, 16 levels of IF, 32 temporaries, or 1,024 orders with STOP: the statement
  *   12  the buffer is too short for the object, and all else is well: place 0
+ *   13  a %FINISH closes no group: the statement; or a group is open at %ENDOFPROGRAM: the statement of the first such %START
  * Statements count from 1; those of nothing are not counted. */
 uint64_t skimp_compile(const uint8_t *source, size_t source_len, uint8_t *object, size_t object_len);
 

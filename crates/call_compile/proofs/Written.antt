@@ -1,63 +1,67 @@
--- The text of a sheet's object, from the arrays that the translation fills.
+-- The text of a sheet's object, from the array that the translation fills.
 use Prim.Native.Nat.{ℕ, _≤_}
-use mathlib.Core.Path.{_≡_, refl, ap, _∙_}
-use mathlib.Core.Bool.{true}
+use mathlib.Core.Path.{_≡_, refl, sym, ap, ap₂, _∙_}
 use mathlib.Core.List.{List}
 use native.Mathlib.Omega.{arith}
-use borrow.Author.Tests.{le-leb}
-use lib.ListN.{length}
-use Rattle.base.specs.Choice.{pick}
-use Rattle.order.specs.Order.{operand}
-use Rattle.order.specs.Memory.{number, ordersFrom}
-use Rattle.order.specs.Limits.{mostOrders}
+use lib.ListN.{length, take}
+use lib.Seq.{length-take-le}
+use Rattle.order.specs.Limits.{mostVariables, mostOrders}
+use Rattle.order.specs.Memory.{ordersIn}
 use Rattle.order.specs.Object.{text}
-use Rattle.order.proofs.Arrays.{arrays-hold}
-use Rattle.sheet.specs.Sheet.{Sheet, variables}
+use Rattle.order.proofs.Arrays.{good-narrow, array-holds}
+use Rattle.sheet.specs.Sheet.{Part, Sheet, sheet, variables}
+use Rattle.sheet.specs.Fields.{sheetFields}
 use Rattle.sheet.specs.Within.{Within}
-use Rattle.sheet.specs.Translation.{translation, sheetTemporaries, objectText}
-use Rattle.translate.specs.Answers.{withinLimits, whole, refusal, answerFor, filledFor}
+use Rattle.sheet.specs.Translation.{translation, temporariesOf, objectText}
+use Rattle.sheet.proofs.GoodObject.{translation-good}
+use Rattle.sheet_field.specs.Memory.{fieldsAt, mostFields}
+use Rattle.translate.specs.declared.Translated.{Translated}
+use Rattle.translate.specs.declared.Translated.the-variants.{Whole, Over}
+use Rattle.translate.specs.Answers.{TranslatesTo, Translates}
 use Rattle.call.specs.Reply.{wrote, textWriting}
+use Rattle.call_compile.specs.Internal.{OrdersWritten}
 
-module _ (s : Sheet) (w : Within s) where
-  limits-kept : withinLimits s ≡ true
-  unfolding withinLimits pick
-  limits-kept = rw (le-leb _ _ (w .few-variables), le-leb _ _ (w .few-temporaries)) (le-leb _ _ (w .few-orders))
+module _ (fs : List ℕ) (v : ℕ) (zeros : List ℕ) (long : length zeros ≡ mostOrders) (a : Translated) (out : List ℕ) (told : Translates fs v zeros a out) where
+  module _ (x : Part) (w : Within (sheet v x)) (same : fieldsAt 0 fs ≡ sheetFields (sheet v x)) (small : length fs ≤ mostFields) where
+    it : TranslatesTo v x zeros a out
+    it = told .of x (w .formed) same (w .few-variables) small long
 
-  answer-whole : answerFor s ≡ whole (sheetTemporaries s) (length (translation s))
-  unfolding pick
-  answer-whole = rw limits-kept refl
+    -- a sheet within the limits has room
+    no-over : {P : Type 0} → a ≡ Over → P
+    no-over e = let both = it .whole (w .few-orders) .0 in let z : _≡_ {A = ℕ} 0 1 = cc in absurd (omega arith)
 
-  -- a sheet within the limits is not over them
-  pub never-over : {A : Type 0} → refusal 11 ≡ answerFor s → A
-  never-over e = let z = e ∙ answer-whole in let y : _≡_ {A = ℕ} 0 1 = cc in absurd (omega (arith, y))
+    whole-by :
+        (t n : ℕ) (before : List ℕ) (r : ℕ) (after : List ℕ)
+        → a ≡ Whole t n
+        → OrdersWritten (take n out) v t before r after
+        → wrote r after ≡ textWriting 12 (objectText (sheet v x)) before
+    whole-by t n before r after e written =
+        let told = it .whole (w .few-orders) in
+        let both : Whole t n ≡ Whole (temporariesOf x) (length (translation (sheet v x))) = sym e ∙ told .0 in
+        let used : t ≡ temporariesOf x = cc in
+        let many : n ≡ length (translation (sheet v x)) = cc in
+        let good = translation-good (sheet v x) w in
+        let held : ordersIn (take n out) ≡ translation (sheet v x) =
+        ap₂ (λ k l. ordersIn (take k l)) many (told .1)
+        ∙ array-holds (translation (sheet v x)) zeros (good-narrow v (temporariesOf x) (translation (sheet v x)) good) (omega (arith, long, w .few-orders)) in
+        written (omega (arith, many, w .few-orders, length-take-le n out (room many)))
+        ∙ ap₂ (λ k l. textWriting 12 (text v k l) before) used held
+      where
+        room : n ≡ length (translation (sheet v x)) → n ≤ length out
+        room many = omega (arith, many, w .few-orders, told .kept, long)
 
-  pub temporaries-told : (t n : ℕ) → whole t n ≡ answerFor s → (t ≡ sheetTemporaries s) × (n ≡ length (translation s))
-  temporaries-told t n e = let z = e ∙ answer-whole in (cc, cc)
+  pub never-over : (s : Sheet) → Within s → variables s ≡ v → fieldsAt 0 fs ≡ sheetFields s → length fs ≤ mostFields → {P : Type 0} → a ≡ Over → P
+  never-over (sheet u x) w same fields small e = no-over x (rw same at w) fields small e
 
-  -- the orders that the arrays hold are those of the translation
-  pub object-text :
-      (t n : ℕ) (ks vs : List ℕ)
-      → whole t n ≡ answerFor s
-      → length (translation s) ≤ length ks
-      → length (translation s) ≤ length vs
-      → text (variables s) t (ordersFrom 0 n (filledFor s number ks) (filledFor s operand vs)) ≡ objectText s
-  unfolding pick
-  object-text t n ks vs e room room-too =
-      let told = temporaries-told t n e in
-      rw (limits-kept, told .0, told .1, arrays-hold (translation s) ks vs room room-too) refl
-
-  -- the reply and the bytes, from what the translation has told and filled
   pub whole-written :
-      (v t n : ℕ) (ks vs numbers operands before : List ℕ) (r : ℕ) (after : List ℕ)
+      (s : Sheet)
+      → Within s
       → variables s ≡ v
-      → whole t n ≡ answerFor s
-      → numbers ≡ filledFor s number ks
-      → operands ≡ filledFor s operand vs
-      → length ks ≡ mostOrders
-      → length vs ≡ mostOrders
-      → wrote r after ≡ textWriting 12 (text v t (ordersFrom 0 n numbers operands)) before
+      → fieldsAt 0 fs ≡ sheetFields s
+      → length fs ≤ mostFields
+      → (t n : ℕ) (before : List ℕ) (r : ℕ) (after : List ℕ)
+      → a ≡ Whole t n
+      → OrdersWritten (take n out) v t before r after
       → wrote r after ≡ textWriting 12 (objectText s) before
-  whole-written v t n ks vs numbers operands before r after same e f g room room-too written =
-      written
-      ∙ ap (λ l. textWriting 12 l before)
-      (rw (f, g, ← same) (object-text t n ks vs e (omega (arith, room, w .few-orders)) (omega (arith, room-too, w .few-orders))))
+  whole-written (sheet u x) w same fields small t n before r after e written =
+      whole-by x (rw same at w) fields small t n before r after e written ∙ ap (λ k. textWriting 12 (objectText (sheet k x)) before) (sym same)

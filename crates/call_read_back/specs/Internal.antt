@@ -1,19 +1,15 @@
--- What the private functions do. A reader of the promises needs none of it.
-use Prim.Native.Nat.{ℕ, _-_}
+-- What the private function does. A reader of the promises needs none of it.
+use Prim.Native.Nat.{ℕ}
 use mathlib.Core.Path.{_≡_}
-use mathlib.Core.List.{List}
-use lib.ListN.{length}
-use Rattle.sheet.specs.Sheet.{Sheet, variables, instructions}
-use Rattle.sheet.specs.Fields.{sheetFields, sheetText}
-use Rattle.sheet_field.specs.Memory.{fieldsFrom, mostFields}
-use Rattle.call.specs.Reply.{wrote, textWriting}
+use mathlib.Core.List.{List, map}
+use Rattle.order.specs.declared.Order.{Order}
+use Rattle.order.specs.Good.{Good}
+use Rattle.order.specs.Memory.{orderWord}
+use Rattle.sheet.specs.ReadBack.{untranslate}
+use Rattle.call.specs.Reply.{wrote}
+use Rattle.call.specs.ReadingBack.{sheetCall}
 
--- of a sheet whose fields stand in two arrays from a place to their end, the text is written
-abbrev pub SheetWritten : List ℕ → List ℕ → ℕ → ℕ → ℕ → List ℕ → ℕ → List ℕ → Type 0
-SheetWritten ks vs from v count before r after =
-    (s : Sheet)
-    → length ks ≡ mostFields
-    → fieldsFrom from (length ks - from) ks vs ≡ sheetFields s
-    → variables s ≡ v
-    → length (instructions s) ≡ count
-    → wrote r after ≡ textWriting 32 (sheetText s) before
+-- of a good object whose orders an array holds, the sheet's text is written, or that there is none
+abbrev pub SheetWritten : List ℕ → ℕ → ℕ → List ℕ → ℕ → List ℕ → Type 0
+SheetWritten ws v t before r after =
+    (os : List Order) → Good v t os → ws ≡ map orderWord os → wrote r after ≡ sheetCall (untranslate v t os) before

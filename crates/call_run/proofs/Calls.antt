@@ -1,4 +1,4 @@
--- A call of run: what the arrays and the bytes on the way come to.
+-- A call of run: what the array and the bytes on the way come to.
 use Prim.Native.Nat.{ℕ, _+_, _*_, _≤_}
 use mathlib.Core.Path.{_≡_, refl, sym, ap, _∙_}
 use mathlib.Core.Bool.{true}
@@ -11,11 +11,10 @@ use Rattle.base.proofs.Cases.{by-less, pick-yes}
 use Rattle.base.proofs.Lists.{sets-append, sets-whole, getD-sets, getD-sets-behind}
 use Rattle.order.specs.declared.Order.{Order}
 use Rattle.order.specs.declared.Order.the-variants.{Stop}
-use Rattle.order.specs.Order.{operand}
-use Rattle.order.specs.Memory.{number, orderOf, ordersOf}
+use Rattle.order.specs.Memory.{orderWord, orderIn, ordersIn}
 use Rattle.order.specs.Object.{Reading, object, refused, reading, linesOf}
 use Rattle.order.specs.Good.{Good}
-use Rattle.order.proofs.Numbers.{orders-again, ordersOf-at}
+use Rattle.order.proofs.Arrays.{Narrow, orders-in, good-narrow, order-at}
 use Rattle.order.proofs.RoundTrip.{read-good, lines-read}
 use Rattle.object_reader.specs.Answers.{good, verdictOf}
 use Rattle.machine.specs.declared.Registers.{Registers}
@@ -83,7 +82,7 @@ unfolding objectCall
 fitting-call words n os state output frame budget h e =
     pick-yes _ _ _ _ e (ap (λ k. ranCall (run os budget (machine (registersOf state) (wordsAt k 20 state) output))) (length-take-le words frame h))
 
--- ---- the arrays that the reader fills
+-- ---- the array that the reader fills
 
 module _ (zeros vs : List ℕ) (clear : (i : ℕ) → getD zeros i 0 ≡ 0) (room : length vs ≤ length zeros) where
   filled-at : (i : ℕ) → getD (sets zeros 0 vs) i 0 ≡ getD vs i 0
@@ -95,32 +94,23 @@ module _ (zeros vs : List ℕ) (clear : (i : ℕ) → getD zeros i 0 ≡ 0) (roo
       ap (λ k. getD (sets zeros 0 vs) k 0) e ∙ getD-sets vs zeros 0 i 0 h (omega arith))
       (λ h. getD-sets-behind vs zeros 0 i 0 (omega arith) ∙ clear i ∙ sym (List·getD-eq-default vs 0 {n = i} h))
 
--- they hold the orders, and behind them STOP
-module _
-    (numbers operands : List ℕ)
-    (numbers-clear : (i : ℕ) → getD numbers i 0 ≡ 0)
-    (operands-clear : (i : ℕ) → getD operands i 0 ≡ 0)
-    (os : List Order)
-    (numbers-room : length os ≤ length numbers)
-    (operands-room : length os ≤ length operands)
-  where
-    held-at : (i : ℕ) → getD (ordersOf (sets numbers 0 (map number os)) (sets operands 0 (map operand os))) i Stop ≡ getD os i Stop
-    held-at i =
-        ordersOf-at (sets numbers 0 (map number os)) (sets operands 0 (map operand os)) i
-        ∙ ap (λ k. orderOf k (getD (sets operands 0 (map operand os)) i 0)) (filled-at numbers (map number os) numbers-clear (omega (arith, length-map os number)) i)
-        ∙ ap (λ v. orderOf (getD (map number os) i 0) v) (filled-at operands (map operand os) operands-clear (omega (arith, length-map os operand)) i)
-        ∙ sym (ordersOf-at (map number os) (map operand os) i)
-        ∙ ap (λ l. getD l i Stop) (orders-again os)
+-- it holds the orders, and behind them STOP
+module _ (array : List ℕ) (clear : (i : ℕ) → getD array i 0 ≡ 0) (os : List Order) (small : Narrow os) (room : length os ≤ length array) where
+  held-at : (i : ℕ) → getD (ordersIn (sets array 0 (map orderWord os))) i Stop ≡ getD os i Stop
+  held-at i =
+      order-at (sets array 0 (map orderWord os)) i
+      ∙ ap orderIn (filled-at array (map orderWord os) clear (omega (arith, length-map os orderWord)) i)
+      ∙ sym (order-at (map orderWord os) i)
+      ∙ ap (λ l. getD l i Stop) (orders-in os small)
 
-    held-call :
-        (words n : ℕ) (state output : List ℕ) (budget : ℕ)
-        → objectCall words n (ordersOf (sets numbers 0 (map number os)) (sets operands 0 (map operand os))) state output budget
-        ≡ objectCall words n os state output budget
-    unfolding objectCall
-    held-call words n state output budget =
-        ap
-        (λ x. pick (stateFits words n state output) (ranCall x) (refusedCall 26 0 state output))
-        (run-same (ordersOf (sets numbers 0 (map number os)) (sets operands 0 (map operand os))) os held-at budget (machine (registersOf state) (wordsAt words 20 state) output))
+  held-call :
+      (words n : ℕ) (state output : List ℕ) (budget : ℕ)
+      → objectCall words n (ordersIn (sets array 0 (map orderWord os))) state output budget ≡ objectCall words n os state output budget
+  unfolding objectCall
+  held-call words n state output budget =
+      ap
+      (λ x. pick (stateFits words n state output) (ranCall x) (refusedCall 26 0 state output))
+      (run-same (ordersIn (sets array 0 (map orderWord os))) os held-at budget (machine (registersOf state) (wordsAt words 20 state) output))
 
 -- ---- what the reader answers
 
@@ -152,16 +142,13 @@ module _ (l : List ℕ) where
     pub few-words : v + t + 2 ≤ 98
     few-words = omega (arith, limits .variables, limits .temporaries)
 
-    -- the call with the arrays that the reader has filled
+    -- the call with the array that the reader has filled
     pub good-call :
-        (numbers operands state output : List ℕ) (budget : ℕ)
-        → ((i : ℕ) → getD numbers i 0 ≡ 0)
-        → ((i : ℕ) → getD operands i 0 ≡ 0)
-        → length numbers ≡ 1024
-        → length operands ≡ 1024
-        → objectCall (v + t + 2) n (ordersOf (sets numbers 0 (map number (linesOf l))) (sets operands 0 (map operand (linesOf l)))) state output budget
-        ≡ runCall l state output budget
+        (array state output : List ℕ) (budget : ℕ)
+        → ((i : ℕ) → getD array i 0 ≡ 0)
+        → length array ≡ 1024
+        → objectCall (v + t + 2) n (ordersIn (sets array 0 (map orderWord (linesOf l)))) state output budget ≡ runCall l state output budget
     unfolding runCall
-    good-call numbers operands state output budget clear clear-too a b =
+    good-call array state output budget clear size =
         rw (known .read, lines-read l v t (known .orders) (known .read), ← known .counted)
-        (held-call numbers operands clear clear-too (known .orders) (omega (arith, a, limits .few-orders)) (omega (arith, b, limits .few-orders)) (v + t + 2) (length (known .orders)) state output budget)
+        (held-call array clear (known .orders) (good-narrow v t (known .orders) limits) (omega (arith, size, limits .few-orders)) (v + t + 2) (length (known .orders)) state output budget)

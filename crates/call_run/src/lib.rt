@@ -12,7 +12,7 @@ ghost use mathlib.Core.Path.{_≡_};
 ghost use Prim.Native.Nat.{_+_, _*_, _≤_};
 ghost use lib.ListN.{length};
 ghost use Rattle.order.specs.Limits.{mostWords};
-ghost use Rattle.order.specs.Memory.{ordersOf};
+ghost use Rattle.order.specs.Memory.{ordersIn};
 ghost use Rattle.machine.specs.Machine.{machine, run as spec-run};
 ghost use Rattle.skimp_state.specs.State.{registersOf, wordsAt};
 ghost use Rattle.call.specs.Run.{call, runCall, ranCall, objectCall, isEnding, registersFit, stateFits};
@@ -56,8 +56,7 @@ fn state_fits(words: usize, n: u32, state: &[u8], output: &[u8]) -> bool
 
 // The run itself, with a lent array of the object's words.
 fn run_with(
-    numbers: &[u8],
-    operands: &[u32],
+    orders: &[u64],
     words: &mut [u32],
     state: &mut [u8],
     output: &mut [u8],
@@ -68,7 +67,7 @@ fn run_with(
     ensures { λ r. ⌜ call r (now (state .exit)) (now (output .exit))
         ≡ ranCall
         (spec-run
-        (ordersOf (now (numbers .entry)) (now (operands .entry)))
+        (ordersIn (now (orders .entry)))
         budget
         (machine
         (registersOf (now (state .entry)))
@@ -77,7 +76,7 @@ fn run_with(
 {
     load_words(state, words);
     let r = registers(state);
-    let done = machine_run::run(numbers, operands, words, output, r, budget);
+    let done = machine_run::run(orders, words, output, r, budget);
     let after = done.registers;
     store_registers(state, after);
     store_words(state, words);
@@ -86,8 +85,7 @@ fn run_with(
 
 // Runs orders in a frame of so many words, or refuses the state.
 fn run_orders(
-    numbers: &[u8],
-    operands: &[u32],
+    orders: &[u64],
     words: usize,
     n: u32,
     state: &mut [u8],
@@ -99,21 +97,14 @@ fn run_orders(
         ≡ objectCall
         words
         n
-        (ordersOf (now (numbers .entry)) (now (operands .entry)))
+        (ordersIn (now (orders .entry)))
         (now (state .entry))
         (now (output .entry))
         budget ⌝ }
 {
     let mut frame = [0u32; MOST_WORDS];
     if state_fits(words, n, state, output) {
-        return run_with(
-            numbers,
-            operands,
-            &mut frame[..words],
-            state,
-            output,
-            budget,
-        );
+        return run_with(orders, &mut frame[..words], state, output, budget);
     }
     reply(26, 0)
 }
@@ -124,12 +115,11 @@ pub fn run(object: &[u8], state: &mut [u8], output: &mut [u8], budget: u32) -> u
     ensures { λ r. ⌜ call r (now (state .exit)) (now (output .exit))
         ≡ runCall (now (object .entry)) (now (state .entry)) (now (output .entry)) budget ⌝ }
 {
-    let mut numbers = [0u8; MOST_ORDERS as usize];
-    let mut operands = [0u32; MOST_ORDERS as usize];
-    let reading = object_reader::read(object, &mut numbers, &mut operands);
+    let mut orders = [0u64; MOST_ORDERS as usize];
+    let reading = object_reader::read(object, &mut orders);
     let Reading::Good(v, t, n) = reading else {
         return refusal(reading);
     };
     let words = (v + t + 2) as usize;
-    run_orders(&numbers, &operands, words, n, state, output, budget)
+    run_orders(&orders, words, n, state, output, budget)
 }

@@ -1,7 +1,7 @@
 // Document 01's worked program ("One program whole"), its "Readings either side of a line" and its "Slips", each through the
-// three calls: a source is compiled, its object read back and run. Then a source for each other refusal of a source, objects
-// that differ from a translation by little, and each refusal of an object. The file stdout beside src/ has what document 01
-// says of each.
+// three calls: a source is compiled, its object read back and run. Then a source for each other refusal of a source, groups,
+// objects that differ from a translation by little, and each refusal of an object. The file stdout beside src/ has what documents
+// 01 and 02 say of each.
 use libc::STDOUT_FILENO;
 
 fn main() {
@@ -12,6 +12,7 @@ fn main() {
     slips();
     bytes_and_cells();
     programs();
+    groups();
     short_buffers();
     choices();
     near_misses();
@@ -267,6 +268,38 @@ fn programs() {
     );
 }
 
+// Groups, document 02, L1: one in the first part of another, a label behind a first part, and the refusals 7, 11 and 13.
+fn groups() {
+    reading(
+        b"a group in a group",
+        b"%BEGIN;%IF 1=1 %THEN %START;%IF 1=2 %THEN %START;SEND(1);%FINISH %ELSE %START;SEND(2);%FINISH;%FINISH;%ENDOFPROGRAM",
+    );
+    reading(
+        b"a label behind a first part",
+        b"%BEGIN;%IF 1=1 %THEN %START;->1;1:;%FINISH %ELSE %START;SEND(1);%FINISH;SEND(2);%ENDOFPROGRAM",
+    );
+    reading(
+        b"labels alone in a group",
+        b"%BEGIN;%IF 1=1 %THEN %START;1:;%FINISH;%ENDOFPROGRAM",
+    );
+    reading(
+        b"a group left open",
+        b"%BEGIN;%IF 1=1 %THEN %START;->1;%ENDOFPROGRAM",
+    );
+    reading(
+        b"no group to close",
+        b"%BEGIN;SEND(1);%FINISH;%ENDOFPROGRAM",
+    );
+    reading(
+        b"%FINISH %ELSE with an instruction",
+        b"%BEGIN;%IF 1=1 %THEN %START;SEND(1);%FINISH %ELSE SEND(2);%ENDOFPROGRAM",
+    );
+    reading(
+        b"17 levels",
+        b"%BEGIN;%IF 1=1 %THEN %START;%IF 1=1 %THEN %START;%IF 1=1 %THEN %START;%IF 1=1 %THEN %START;%IF 1=1 %THEN %START;%IF 1=1 %THEN %START;%IF 1=1 %THEN %START;%IF 1=1 %THEN %START;%IF 1=1 %THEN %START;%IF 1=1 %THEN %START;%IF 1=1 %THEN %START;%IF 1=1 %THEN %START;%IF 1=1 %THEN %START;%IF 1=1 %THEN %START;%IF 1=1 %THEN %START;%IF 1=1 %THEN %START;%IF 1=1 %THEN SEND(1);%ENDOFPROGRAM",
+    );
+}
+
 // "Writing orders until the buffer is full, then replying 0": one byte too few is refused, and nothing is written.
 fn short_buffers() {
     let mut object = [255u8; 36];
@@ -283,20 +316,28 @@ fn short_buffers() {
     show_bytes(b"sheet", &sheet);
 }
 
-// "Taking a JMP after an IF for its ELSE wherever the branch leads": an instruction where the branch leads to it, ELSE where it
-// leads past it, nothing where it leads on.
+// "Taking a JMP after an IF for its ELSE wherever the branch leads": an ELSE where the branch leads past a SKIP, and nowhere else; a
+// JMP is an instruction.
 fn choices() {
-    say(b"a branch to the JMP: ");
+    say(b"a branch past a SKIP: ");
     read_back(
-        b"BOX\t1\t0\t9\nLOAD\tD\t2\nCMP\tK\t0\nBNE\tA\t5\nLOAD\tK\t1\nSEND\t-\t0\nJMP\tA\t8\nLOAD\tK\t2\nSEND\t-\t0\nSTOP\t-\t0\n",
+        b"BOX\t1\t0\t9\nLOAD\tD\t2\nCMP\tK\t0\nBNE\tA\t6\nLOAD\tK\t1\nSEND\t-\t0\nSKIP\tA\t8\nLOAD\tK\t2\nSEND\t-\t0\nSTOP\t-\t0\n",
     );
-    say(b"a branch past the JMP: ");
+    say(b"a branch past a JMP: ");
     read_back(
         b"BOX\t1\t0\t9\nLOAD\tD\t2\nCMP\tK\t0\nBNE\tA\t6\nLOAD\tK\t1\nSEND\t-\t0\nJMP\tA\t8\nLOAD\tK\t2\nSEND\t-\t0\nSTOP\t-\t0\n",
     );
+    say(b"a branch to a JMP: ");
+    read_back(
+        b"BOX\t1\t0\t9\nLOAD\tD\t2\nCMP\tK\t0\nBNE\tA\t5\nLOAD\tK\t1\nSEND\t-\t0\nJMP\tA\t8\nLOAD\tK\t2\nSEND\t-\t0\nSTOP\t-\t0\n",
+    );
+    say(b"a branch to a SKIP: ");
+    read_back(
+        b"BOX\t1\t0\t9\nLOAD\tD\t2\nCMP\tK\t0\nBNE\tA\t5\nLOAD\tK\t1\nSEND\t-\t0\nSKIP\tA\t8\nLOAD\tK\t2\nSEND\t-\t0\nSTOP\t-\t0\n",
+    );
     say(b"a branch further on: ");
     read_back(
-        b"BOX\t1\t0\t9\nLOAD\tD\t2\nCMP\tK\t0\nBNE\tA\t7\nLOAD\tK\t1\nSEND\t-\t0\nJMP\tA\t8\nLOAD\tK\t2\nSEND\t-\t0\nSTOP\t-\t0\n",
+        b"BOX\t1\t0\t9\nLOAD\tD\t2\nCMP\tK\t0\nBNE\tA\t7\nLOAD\tK\t1\nSEND\t-\t0\nSKIP\tA\t8\nLOAD\tK\t2\nSEND\t-\t0\nSTOP\t-\t0\n",
     );
 }
 

@@ -1,2 +1,4 @@
-pub mod FieldTurns
+pub mod Testing
+pub mod Putting
+pub mod Leading
 pub mod Instructions

@@ -1,12 +1,12 @@
 -- The fields of a program in memory, where a jump carries the number of its statement and its label; and what the fields of an
 -- instruction, as they stand in memory, tell of it.
-use Prim.Native.Nat.{ℕ, _+_, _*_, _%_}
+use Prim.Native.Nat.{ℕ, _+_, _*_, _/_, _%_}
 use mathlib.Core.Bool.{Bool, true, false}
 use mathlib.Core.List.{List, [], _∷_}
 use Rattle.base.specs.Choice.{pick}
 use Rattle.sheet.specs.declared.Field.{Field}
-use Rattle.sheet.specs.declared.Field.the-variants.{Else, Then, Send, Neg, Not, Binary, If, Word, Constant, Set, Goto}
-use Rattle.source.specs.Program.{isKnown}
+use Rattle.sheet.specs.declared.Field.the-variants.{Else, Start, Finish, If, Send, Neg, Not, Binary, Compare, Word, Constant, Set, Goto}
+use Rattle.source.specs.Program.{isKnown, Jump as SourceJump, jump}
 use Rattle.fields.specs.declared.Jump.{Jump}
 use Rattle.fields.specs.declared.Jump.the-variants.{To, Missing as None}
 
@@ -14,12 +14,14 @@ use Rattle.fields.specs.declared.Jump.the-variants.{To, Missing as None}
 
 abbrev pub fieldKnown : Field → Bool
 fieldKnown Else = true
-fieldKnown Then = true
+fieldKnown Start = true
+fieldKnown Finish = true
+fieldKnown If = true
 fieldKnown Send = true
 fieldKnown Neg = true
 fieldKnown Not = true
 fieldKnown (Binary o) = true
-fieldKnown (If r) = true
+fieldKnown (Compare r) = true
 fieldKnown (Word w) = isKnown w
 fieldKnown (Constant n) = true
 fieldKnown (Set w) = isKnown w
@@ -33,12 +35,14 @@ fieldsKnown (f ∷ fs) = pick (fieldKnown f) (fieldsKnown fs) false
 
 abbrev pub jumpOf : Field → Jump
 jumpOf Else = None
-jumpOf Then = None
+jumpOf Start = None
+jumpOf Finish = None
+jumpOf If = None
 jumpOf Send = None
 jumpOf Neg = None
 jumpOf Not = None
 jumpOf (Binary o) = None
-jumpOf (If r) = None
+jumpOf (Compare r) = None
 jumpOf (Word w) = None
 jumpOf (Constant n) = None
 jumpOf (Set w) = None
@@ -63,9 +67,24 @@ labelNumbers = 16384
 abbrev pub packedJump : ℕ → ℕ → ℕ
 packedJump k l = k % statementNumbers * labelNumbers + l % labelNumbers
 
-abbrev pub packedAs : ℕ → Field → Jump → Field
-packedAs k f (To l) = Goto (packedJump k l)
-packedAs k f None = f
+-- a field with another number where it jumps
+abbrev pub jumpingAs : (ℕ → ℕ) → Field → Jump → Field
+jumpingAs to f (To l) = Goto (to l)
+jumpingAs to f None = f
 
+abbrev pub jumping : (ℕ → ℕ) → Field → Field
+jumping to f = jumpingAs to f (jumpOf f)
+
+-- a field of statement k as it is put
 abbrev pub packedField : ℕ → Field → Field
-packedField k f = packedAs k f (jumpOf f)
+packedField k f = jumping (packedJump k) f
+
+-- what stands in memory: the field with its label, and the jump with its statement
+abbrev pub labelOf : ℕ → ℕ
+labelOf p = p % labelNumbers
+
+abbrev pub unpacked : Field → Field
+unpacked f = jumping labelOf f
+
+abbrev pub jumpIn : ℕ → SourceJump
+jumpIn p = jump (p / labelNumbers) (labelOf p)

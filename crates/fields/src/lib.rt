@@ -1,26 +1,30 @@
 // The fields of a statement, tested and put behind those of the program. In memory a jump carries the number of its
 // statement, times LABELS, and its label.
+use labels::Found;
 use labels::number_of;
 use sheet::Field;
 use sheet_field::field_at;
+use sheet_field::field_in;
+use sheet_field::kind_of;
+use sheet_field::value_of;
 use source::GREATEST_LABEL;
 ghost use mathlib.Core.Path.{_≡_};
-ghost use Prim.Native.Nat.{_+_};
+ghost use Prim.Native.Nat.{_+_, _<_};
 ghost use lib.Dec.{leb};
 ghost use lib.ListN.{length};
-ghost use Rattle.sheet_field.specs.Memory.{fieldsFrom};
+ghost use Rattle.sheet_field.specs.Memory.{carried, fieldWord, fieldsAt};
 ghost use Rattle.source.specs.Program.{isLabel, all};
 ghost use Rattle.labels.specs.Memory.{labelsOf};
-ghost use Rattle.fields.specs.Memory.{fieldKnown, fieldsKnown, jumpOf, fieldJumps};
-ghost use Rattle.fields.specs.Answers.{putIn, putOf, ledIn, ledOf};
-ghost use Rattle.fields.specs.Internal.{goodJump, packedValue, LeadsOne, Appends};
+ghost use Rattle.fields.specs.Memory.{fieldKnown, fieldsKnown, jumpOf, fieldJumps, packedField};
+ghost use Rattle.fields.specs.Answers.{putIn, putOf, pushOf, ledIn, ledOf};
+ghost use Rattle.fields.specs.Internal.{goodJump, Puts, Appends, LeadsOne};
 
 // `statementNumbers` and `labelNumbers` of specs/Memory.antt.
 const STATEMENTS: u32 = 65536;
 
 const LABELS: u32 = 16384;
 
-// How many fields there are now, or that the arrays have no room for them.
+// How many fields there are now, or that the array has no room for them.
 pub enum Put {
     Fields(usize),
     Unfit,
@@ -50,12 +54,14 @@ fn is_known(f: Field) -> bool
 {
     match f {
         Field::Else => true,
-        Field::Then => true,
+        Field::Start => true,
+        Field::Finish => true,
+        Field::If => true,
         Field::Send => true,
         Field::Neg => true,
         Field::Not => true,
         Field::Binary(_) => true,
-        Field::If(_) => true,
+        Field::Compare(_) => true,
         Field::Word(w) => 2 <= w,
         Field::Constant(_) => true,
         Field::Set(w) => 2 <= w,
@@ -63,13 +69,13 @@ fn is_known(f: Field) -> bool
     }
 }
 
-// Whether the names in n fields are all known.
-pub fn all_known(kinds: &[u8], values: &[u32], n: usize) -> bool
-    ensures { λ r. ⌜ r ≡ fieldsKnown (fieldsFrom 0 n (now (kinds .entry)) (now (values .entry))) ⌝ }
+// Whether the names in fields are all known.
+pub fn all_known(fields: &[u64]) -> bool
+    ensures { λ r. ⌜ r ≡ fieldsKnown (fieldsAt 0 (now (fields .entry))) ⌝ }
 {
-    let mut i = 0;
-    while i < n {
-        if is_known(field_at(kinds, values, i)) {
+    let mut i: usize = 0;
+    while i < fields.len() {
+        if is_known(field_in(fields[i])) {
             i += 1;
         } else {
             return false;
@@ -83,12 +89,14 @@ fn jump_of(f: Field) -> Jump
 {
     match f {
         Field::Else => Jump::Missing,
-        Field::Then => Jump::Missing,
+        Field::Start => Jump::Missing,
+        Field::Finish => Jump::Missing,
+        Field::If => Jump::Missing,
         Field::Send => Jump::Missing,
         Field::Neg => Jump::Missing,
         Field::Not => Jump::Missing,
         Field::Binary(_) => Jump::Missing,
-        Field::If(_) => Jump::Missing,
+        Field::Compare(_) => Jump::Missing,
         Field::Word(_) => Jump::Missing,
         Field::Constant(_) => Jump::Missing,
         Field::Set(_) => Jump::Missing,
@@ -110,13 +118,13 @@ fn good_jump(j: Jump) -> bool
     }
 }
 
-// Whether the jumps among n fields all name labels.
-pub fn good_jumps(kinds: &[u8], values: &[u32], n: usize) -> bool
-    ensures { λ r. ⌜ r ≡ all isLabel (fieldJumps (fieldsFrom 0 n (now (kinds .entry)) (now (values .entry)))) ⌝ }
+// Whether the jumps among fields all name labels.
+pub fn good_jumps(fields: &[u64]) -> bool
+    ensures { λ r. ⌜ r ≡ all isLabel (fieldJumps (fieldsAt 0 (now (fields .entry)))) ⌝ }
 {
-    let mut i = 0;
-    while i < n {
-        if good_jump(jump_of(field_at(kinds, values, i))) {
+    let mut i: usize = 0;
+    while i < fields.len() {
+        if good_jump(jump_of(field_in(fields[i]))) {
             i += 1;
         } else {
             return false;
@@ -125,43 +133,51 @@ pub fn good_jumps(kinds: &[u8], values: &[u32], n: usize) -> bool
     true
 }
 
-// What a field of statement k carries in memory.
-fn packed(j: Jump, value: u32, k: u32) -> u32
-    ensures { λ r. ⌜ r ≡ packedValue k value j ⌝ }
+// A field as one number, with the fact that what it carries fits, so that it can be read back.
+fn word_of(f: Field) -> u64
+    ensures { λ r. ⌜ (r ≡ fieldWord f) × (carried f < 4294967296) ⌝ }
 {
-    match j {
-        Jump::To(l) => k % STATEMENTS * LABELS + l % LABELS,
-        Jump::Missing => value,
+    let v = value_of(f);
+    kind_of(f) as u64 * 4294967296 + v as u64
+}
+
+// Puts a field at a place.
+fn store(fields: &mut [u64], at: usize, f: Field)
+    ensures { λ _. ⌜ Puts at f (now (fields .entry)) (now (fields .exit)) ⌝ }
+{
+    let w = word_of(f);
+    if at < fields.len() {
+        fields[at] = w;
     }
 }
 
-// Puts the first n fields of two arrays, those of statement k, into two others from place `at` on, where there is room for them.
-fn append_all(
-    own: &[u8],
-    carried: &[u32],
-    n: usize,
-    k: u32,
-    kinds: &mut [u8],
-    values: &mut [u32],
-    at: usize,
-)
-    ensures { λ _. ⌜ (Appends k (fieldsFrom 0 n (now (own .entry)) (now (carried .entry))) at (now (kinds .entry)) (now (values .entry)) (now (kinds .exit)) (now (values .exit))) ⌝ }
+// A field of statement k, as it is put.
+fn packed(f: Field, k: u32) -> Field
+    ensures { λ r. ⌜ r ≡ packedField k f ⌝ }
 {
-    let mut i = 0;
+    match jump_of(f) {
+        Jump::To(l) => Field::Goto(k % STATEMENTS * LABELS + l % LABELS),
+        Jump::Missing => f,
+    }
+}
+
+// Puts the fields of statement k into an array from place `at` on, where there is room for them.
+fn append_all(own: &[u64], k: u32, fields: &mut [u64], at: usize)
+    ensures { λ _. ⌜ Appends k (now (own .entry)) at (now (fields .entry)) (now (fields .exit)) ⌝ }
+{
+    let mut i: usize = 0;
     let mut place = at;
-    while i < n {
-        if kinds.len() <= place {
+    while i < own.len() {
+        if fields.len() <= place {
             return;
         }
-        base::put_byte(kinds, place, base::byte_at(own, i));
-        let jump = jump_of(field_at(own, carried, i));
-        base::put_word(values, place, packed(jump, base::word_at(carried, i), k));
+        store(fields, place, packed(field_in(own[i]), k));
         i += 1;
         place += 1;
     }
 }
 
-// Whether a slice has a place for each of n fields behind `at` others.
+// Whether an array has a place for each of n fields behind `at` others.
 fn has_places(room: usize, at: usize, n: usize) -> bool
     ensures { λ r. ⌜ r ≡ leb (at + n) room ⌝ }
 {
@@ -171,58 +187,57 @@ fn has_places(room: usize, at: usize, n: usize) -> bool
     at <= room - n
 }
 
-// Puts the first n fields of two arrays, those of statement k, into two others behind their first `at`. Free is what these hold
-// behind them, and all that they hold where there is no room.
-pub fn append(
-    own: &[u8],
-    carried: &[u32],
-    n: usize,
-    k: u32,
-    kinds: &mut [u8],
-    values: &mut [u32],
-    at: usize,
-) -> Put
-    ensures told { λ r. ⌜ putIn r (now (kinds .exit)) (now (values .exit))
-        ≡ putOf k (fieldsFrom 0 n (now (own .entry)) (now (carried .entry))) at (now (kinds .entry)) (now (values .entry)) ⌝ }
-    ensures kept { λ _. ⌜ (length (now (kinds .exit)) ≡ length (now (kinds .entry))) × (length (now (values .exit)) ≡ length (now (values .entry))) ⌝ }
+// Puts the fields of statement k into an array behind its first `at`. Free is what it holds behind them, and all that it holds
+// where there is no room.
+pub fn append(own: &[u64], k: u32, fields: &mut [u64], at: usize) -> Put
+    ensures told { λ r. ⌜ putIn r (now (fields .exit)) ≡ putOf k (fieldsAt 0 (now (own .entry))) at (now (fields .entry)) ⌝ }
+    ensures kept { λ _. ⌜ length (now (fields .exit)) ≡ length (now (fields .entry)) ⌝ }
 {
-    if has_places(kinds.len(), at, n) {
-        if has_places(values.len(), at, n) {
-            append_all(own, carried, n, k, kinds, values, at);
-            return Put::Fields(at + n);
-        }
-        return Put::Unfit;
+    if has_places(fields.len(), at, own.len()) {
+        append_all(own, k, fields, at);
+        return Put::Fields(at + own.len());
     }
     Put::Unfit
 }
 
-// Gives the field at place i, where it jumps, the number of the instruction after its label.
-fn lead_jump(kinds: &[u8], values: &mut [u32], i: usize, labels: &[u32], count: u32) -> Way
-    ensures { λ r. ⌜ LeadsOne (labelsOf count (now (labels .entry))) (now (kinds .entry)) i (now (values .entry)) r (now (values .exit)) ⌝ }
+// Puts one field into an array behind its first `at`.
+pub fn push(fields: &mut [u64], at: usize, f: Field) -> Put
+    ensures told { λ r. ⌜ putIn r (now (fields .exit)) ≡ pushOf f at (now (fields .entry)) ⌝ }
+    ensures kept { λ _. ⌜ length (now (fields .exit)) ≡ length (now (fields .entry)) ⌝ }
 {
-    let Jump::To(p) = jump_of(field_at(kinds, values, i)) else {
+    if fields.len() <= at {
+        return Put::Unfit;
+    }
+    store(fields, at, f);
+    Put::Fields(at + 1)
+}
+
+// Gives the field at place i, where it jumps, the number of the instruction after its label.
+fn lead_jump(fields: &mut [u64], i: usize, labels: &[u32], count: u32, next: u32) -> Way
+    ensures { λ r. ⌜ LeadsOne next (labelsOf next count (now (labels .entry))) i (now (fields .entry)) r (now (fields .exit)) ⌝ }
+{
+    let Jump::To(p) = jump_of(field_at(fields, i)) else {
         return Way::On;
     };
-    let s = number_of(labels, count, p % LABELS);
-    if s == 0 {
+    let Found::Number(s) = number_of(labels, count, next, p % LABELS) else {
         return Way::Unset(p / LABELS);
-    }
-    base::put_word(values, i, s);
+    };
+    store(fields, i, Field::Goto(s));
     Way::On
 }
 
-// Gives each jump among n fields the number of the instruction after its label. Free is what the array holds where a jump leads
-// to no instruction.
-pub fn lead_jumps(kinds: &[u8], values: &mut [u32], n: usize, labels: &[u32], count: u32) -> Led
-    ensures told { λ r. ⌜ ledIn r n (now (kinds .entry)) (now (values .exit)) ≡ ledOf (labelsOf count (now (labels .entry))) n (now (kinds .entry)) (now (values .entry)) ⌝ }
-    ensures kept { λ _. ⌜ length (now (values .exit)) ≡ length (now (values .entry)) ⌝ }
+// Gives each jump among the first n fields the number of the instruction after its label. Free is what the array holds where a
+// jump leads to no instruction.
+pub fn lead_jumps(fields: &mut [u64], n: usize, labels: &[u32], count: u32, next: u32) -> Led
+    ensures told { λ r. ⌜ ledIn r n (now (fields .exit)) ≡ ledOf next (labelsOf next count (now (labels .entry))) n (now (fields .entry)) ⌝ }
+    ensures kept { λ _. ⌜ length (now (fields .exit)) ≡ length (now (fields .entry)) ⌝ }
 {
-    if values.len() < n {
+    if fields.len() < n {
         return Led::Unfit;
     }
-    let mut i = 0;
+    let mut i: usize = 0;
     while i < n {
-        if let Way::Unset(k) = lead_jump(kinds, values, i, labels, count) {
+        if let Way::Unset(k) = lead_jump(fields, i, labels, count, next) {
             return Led::Unset(k);
         }
         i += 1;

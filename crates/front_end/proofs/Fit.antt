@@ -1,4 +1,4 @@
--- Whether the two arrays that are lent for the fields are fit for them.
+-- Whether the array that is lent for the fields is fit for them.
 use mathlib.Core.Path.{_≡_, refl}
 use mathlib.Core.List.{List}
 use Prim.Native.Nat.{ℕ}
@@ -9,15 +9,11 @@ use Rattle.sheet_field.specs.Memory.{mostFields}
 use Rattle.source.specs.Source.{answer}
 use Rattle.front_end.specs.Answers.{answered, unfit, answeredIn}
 
-module _ (source ks vs : List ℕ) where
-  pub unfit-kinds : (length ks ≡ mostFields → ⊥) → answeredIn source ks vs ≡ unfit
+module _ (source fs : List ℕ) where
+  pub not-fit : (length fs ≡ mostFields → ⊥) → answeredIn source fs ≡ unfit
   unfolding answeredIn pick
-  unfit-kinds n = rw (ne-eqb (length ks) mostFields n) refl
+  not-fit n = rw (ne-eqb (length fs) mostFields n) refl
 
-  pub unfit-values : length ks ≡ mostFields → (length vs ≡ mostFields → ⊥) → answeredIn source ks vs ≡ unfit
+  pub is-fit : length fs ≡ mostFields → answeredIn source fs ≡ answered (answer source)
   unfolding answeredIn pick
-  unfit-values e n = rw (eq-eqb (length ks) mostFields e, ne-eqb (length vs) mostFields n) refl
-
-  pub both-fit : length ks ≡ mostFields → length vs ≡ mostFields → answeredIn source ks vs ≡ answered (answer source)
-  unfolding answeredIn pick
-  both-fit e f = rw (eq-eqb (length ks) mostFields e, eq-eqb (length vs) mostFields f) refl
+  is-fit e = rw (eq-eqb (length fs) mostFields e) refl

@@ -1,21 +1,20 @@
 -- The statements of a source, one after the other.
 use Prim.Native.Nat.{ℕ, suc, _+_, _≤_, _<_}
 use mathlib.Core.Path.{_≡_, refl, sym, ap, _∙_}
-use mathlib.Core.List.{List, [], _∷_, map}
+use mathlib.Core.List.{List, [], _∷_}
 use native.Mathlib.Omega.{arith}
 use native.Mathlib.Numerals.{add-one}
 use lib.ListN.{length, drop}
 use Rattle.base.specs.Choice.{pick}
 use Rattle.base.specs.Places.{each}
 use Rattle.base.proofs.Cases.{by-test}
-use Rattle.sheet.specs.Sheet.{Sheet, variables, instructions}
-use Rattle.sheet.specs.Translation.{ordersOfAll}
+use Rattle.sheet.specs.Sheet.{count, Sheet, variables, instructions}
+use Rattle.sheet.specs.Fields.{partFields}
+use Rattle.sheet.specs.Translation.{size}
 use Rattle.sheet_field.specs.Memory.{fieldsFrom}
-use Rattle.translate_size.proofs.Lengths.{instruction-twice}
-use Rattle.translate_size.proofs.Measured.{some-instruction}
 use Rattle.source.specs.declared.Mode.the-variants.{Plain}
 use Rattle.source.specs.Cells.{Statements, ended, cut, _then_, statementsFrom, statements}
-use Rattle.source.specs.Program.{Program, nothingRead, Placed, placed, instructionOf, Outcome, statement}
+use Rattle.source.specs.Program.{Program, nothingRead, countOutside, ordersOutside, Outcome, statement}
 use Rattle.source.specs.Source.{Answer, accepted, onOutcome, program, NotAllowed, isAllowed, notAllowed, offset, allAllowed, onAllowed, answer}
 use Rattle.source.specs.Memory.{held}
 use Rattle.cells.specs.declared.Found.{Found}
@@ -23,13 +22,14 @@ use Rattle.cells.specs.declared.Found.the-variants.{At, Missing}
 use Rattle.cells.specs.declared.Next.{Next}
 use Rattle.cells.specs.declared.Reading.the-variants.{Statement, Ended, Cut}
 use Rattle.cells.specs.Answers.{Bytes, refused as notBytes, allowed as allBytes, found, foundOf, unrolled, Moved, Within}
+use Rattle.fields.specs.Memory.{fieldJumps}
+use Rattle.groups.specs.Memory.{GroupsHeld}
 use Rattle.front_end_forms.specs.declared.Progress.{Progress}
 use Rattle.front_end_forms.specs.declared.Step.{Step}
 use Rattle.front_end_forms.specs.declared.Step.the-variants.{Further, Refused, Given, Unfit}
-use Rattle.front_end_forms.specs.Memory.{Holds, Held, noProgress, placedFields, AllPacked}
-use Rattle.front_end_forms.specs.Answers.{Comes, FewCounts}
-use Rattle.front_end_forms.proofs.Steps.{says}
-use Rattle.front_end_forms.proofs.Placing.{fields-inside}
+use Rattle.front_end_forms.specs.Memory.{Holds, Held, noProgress, outsideFields}
+use Rattle.front_end_forms.specs.Answers.{Comes}
+use Rattle.front_end_forms.proofs.Stages.{says}
 use Rattle.front_end.specs.declared.Answer.the-variants.{Sheet as SheetIs}
 use Rattle.front_end.specs.Answers.{Told, told, answered, fieldsOfSheet, refusedAt, unfit}
 use Rattle.front_end.specs.Internal.{Rooms, Going}
@@ -37,63 +37,42 @@ use borrow.Author.Tests.{lt-ltb, le-ltb}
 
 -- ---- nothing was read
 
-pub starting : {source ns ls ks vs : List ℕ} → Rooms source ns ls ks vs → Going source 0 0 noProgress ns ls ks vs
-unfolding placedFields AllPacked ordersOfAll each fieldsFrom
-starting {source} {ns} {ls} {ks} {vs} room =
+pub starting : {source ns ls gs fs : List ℕ} → Rooms source ns ls gs fs → Going source 0 0 noProgress ns ls gs fs
+unfolding outsideFields countOutside ordersOutside partFields count size fieldJumps GroupsHeld fieldsFrom each
+starting room =
     record {
       so-far = nothingRead;
       holds =
           record {
-            parted = refl;
-            named = refl;
-            labelled = refl;
-            fielded = refl;
-            counted = refl;
-            ordered = λ v. refl;
-            packed = tt;
-            few-names = omega arith;
-            few-labels = omega arith;
-            few-orders = omega arith;
-            room-for-names = room .room-for-names;
-            room-for-labels = room .room-for-labels;
-            room-for-kinds = room .room-for-kinds;
-            room-for-values = room .room-for-values;
+            staged = refl;
+            its-names = record { named = refl; few-names = omega arith; room-for-names = room .room-for-names };
+            its-labels = record { labelled = refl; so-far = λ i h small. absurd (omega (arith, h)); few-labels = omega arith; room-for-labels = room .room-for-labels };
+            its-groups = record { grouped = tt; opened = refl; few-levels = omega arith; room-for-groups = room .room-for-groups };
+            its-fields =
+                record {
+                  fielded = refl;
+                  jumped = refl;
+                  counted = refl;
+                  ordered = λ v. refl;
+                  few-orders = omega arith;
+                  room-for-fields = room .room-for-fields;
+                };
           };
       same = refl;
       inside = omega arith;
       fewer = omega arith;
     }
 
--- ---- an instruction has an order
-
-placed-orders : (ps : List Placed) → length ps ≤ ordersOfAll 0 (map instructionOf ps)
-unfolding ordersOfAll
-placed-orders [] = omega arith
-placed-orders (placed k i ∷ ps) =
-    let a = placed-orders ps in
-    let b = instruction-twice 0 i in
-    let c = some-instruction i in
-    omega (arith, a, b, c)
-
-pub few-counts : {q : Program} {p : Progress} {ns ls ks vs : List ℕ} → Holds q p ns ls ks vs → FewCounts p
-few-counts {q} {p} h =
-    let a = placed-orders (q .placed-in) in
-    let b = h .ordered 0 in
-    let c = h .counted in
-    let d = h .few-orders in
-    let e = fields-inside h in
-    (omega (arith, a, b, c, d), omega (arith, e), d)
-
 -- the sheet that is held
-held-told : {p : Progress} {ks vs : List ℕ} {s : Sheet} → Held p ks vs s → told (SheetIs (p .names) (p .instructions) (p .fields)) ks vs ≡ answered (accepted s)
-held-told {p} {ks} {vs} {s} h =
-    ap (λ v. fieldsOfSheet v (p .instructions) (fieldsFrom 0 (p .fields) ks vs)) (h .variables-too)
-    ∙ ap (λ n. fieldsOfSheet (variables s) n (fieldsFrom 0 (p .fields) ks vs)) (h .instructions-too)
-    ∙ ap (fieldsOfSheet (variables s) (length (instructions s))) (h .fields-too)
+held-told : {p : Progress} {fs : List ℕ} {s : Sheet} → Held p fs s → told (SheetIs (p .names) (p .instructions) (p .fields)) fs ≡ answered (accepted s)
+held-told {p} {fs} {s} h =
+    ap (λ v. fieldsOfSheet v (p .instructions) (fieldsFrom 0 (p .fields) fs)) (h .variables-too)
+    ∙ ap (λ n. fieldsOfSheet (variables s) n (fieldsFrom 0 (p .fields) fs)) (h .instructions-too)
+    ∙ ap (fieldsOfSheet (variables s) (count (instructions s))) (h .fields-too)
 
 -- ---- one statement
 
-module _ {source ns ls ks vs : List ℕ} {at k : ℕ} {p : Progress} (g : Going source at k p ns ls ks vs) where
+module _ {source ns ls gs fs : List ℕ} {at k : ℕ} {p : Progress} (g : Going source at k p ns ls gs fs) where
   left : Statements
   left = statementsFrom Plain [] (drop at source)
 
@@ -124,7 +103,7 @@ module _ {source ns ls ks vs : List ℕ} {at k : ℕ} {p : Progress} (g : Going 
           (λ r. onOutcome r (λ q. program q (suc k) (statementsFrom Plain [] (drop after source))))
           (ap (λ j. statement (g .so-far) j (held (n .statement))) (sym (add-one k)) ∙ s)
 
-      module _ {ns′ ls′ ks′ vs′ : List ℕ} {r : Step} (one : Comes (λ o m. Holds o m ns′ ls′ ks′ vs′) (Held p ks′ vs′) r (statement (g .so-far) (k + 1) (held (n .statement)))) where
+      module _ {ns′ ls′ gs′ fs′ : List ℕ} {r : Step} (one : Comes (λ o m. Holds o m ns′ ls′ gs′ fs′) (Held p fs′) r (statement (g .so-far) (k + 1) (held (n .statement)))) where
         pub is-refused : (m j : ℕ) → r ≡ Refused m j → refusedAt m j ≡ answered (program nothingRead 0 (statements source))
         unfolding onOutcome
         is-refused m j s = let t = says (rw s at one) in whole (goes-on t)
@@ -132,13 +111,13 @@ module _ {source ns ls ks vs : List ℕ} {at k : ℕ} {p : Progress} (g : Going 
         pub never-unfit : {A : Type 0} → r ≡ Unfit → A
         never-unfit s = absurd (says (rw s at one))
 
-        pub is-given : r ≡ Given → told (SheetIs (p .names) (p .instructions) (p .fields)) ks′ vs′ ≡ answered (program nothingRead 0 (statements source))
+        pub is-given : r ≡ Given → told (SheetIs (p .names) (p .instructions) (p .fields)) fs′ ≡ answered (program nothingRead 0 (statements source))
         unfolding onOutcome
         is-given s =
             let t = says (rw s at one) in
             held-told (t .kept) ∙ whole (goes-on (t .same))
 
-        pub is-further : (m : Progress) → r ≡ Further m → at < after → after ≤ length source → Going source after (k + 1) m ns′ ls′ ks′ vs′
+        pub is-further : (m : Progress) → r ≡ Further m → at < after → after ≤ length source → Going source after (k + 1) m ns′ ls′ gs′ fs′
         unfolding onOutcome
         is-further m s forward inside =
             let t = says (rw s at one) in
@@ -156,7 +135,7 @@ pub moved-to : {s : List ℕ} {at : ℕ} (n : Next) (after : ℕ) → Moved s at
 moved-to n after h e = rw e at h
 
 -- fewer statements than bytes
-pub few-statements : {source ns ls ks vs : List ℕ} {at k : ℕ} {p : Progress} → Going source at k p ns ls ks vs → length source ≤ 16384 → k + 1 < 65536
+pub few-statements : {source ns ls gs fs : List ℕ} {at k : ℕ} {p : Progress} → Going source at k p ns ls gs fs → length source ≤ 16384 → k + 1 < 65536
 few-statements g h = let a = g .fewer in let b = g .inside in omega (arith, a, b, h)
 
 -- ---- before any statement

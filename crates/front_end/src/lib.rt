@@ -3,6 +3,7 @@ use cells::Found;
 use cells::Reading;
 use cells::next_statement;
 use cells::not_allowed;
+use front_end_forms::MOST_LEVELS;
 use front_end_forms::Step;
 use front_end_forms::nothing_read;
 use front_end_statement::statement;
@@ -18,8 +19,8 @@ ghost use Rattle.source.specs.Source.{program};
 ghost use Rattle.front_end.specs.Answers.{told, answered, answeredIn};
 ghost use Rattle.front_end.specs.Internal.{Rooms};
 
-// A sheet: V, the number of its instructions, and how many fields the arrays hold from their front on; document 01's number
-// and place of the refusal; or that the arrays have not MOST_FIELDS places each.
+// A sheet: V, the number of its instructions, and how many fields the array holds from its front on; document 01's number and
+// place of the refusal; or that the array has not MOST_FIELDS places.
 pub enum Answer {
     Sheet(u32, u32, u32),
     Refused(u32, u32),
@@ -31,11 +32,11 @@ fn read_statements(
     source: &[u8],
     names: &mut [u8],
     labels: &mut [u32],
-    kinds: &mut [u8],
-    values: &mut [u32],
+    groups: &mut [u64],
+    fields: &mut [u64],
 ) -> Answer
-    requires { ⌜ Rooms (now source) (now names) (now labels) (now kinds) (now values) ⌝ }
-    ensures { λ r. ⌜ told r (now (kinds .exit)) (now (values .exit)) ≡ answered (program nothingRead 0 (statements (now (source .entry)))) ⌝ }
+    requires { ⌜ Rooms (now source) (now names) (now labels) (now groups) (now fields) ⌝ }
+    ensures { λ r. ⌜ told r (now (fields .exit)) ≡ answered (program nothingRead 0 (statements (now (source .entry)))) ⌝ }
 {
     let mut at = 0;
     let mut k: u32 = 0;
@@ -48,7 +49,7 @@ fn read_statements(
             Reading::Cut(n) => return Answer::Refused(n, k + 1),
             Reading::Statement(q) => {
                 k += 1;
-                match statement(next.statement, p, k, names, labels, kinds, values) {
+                match statement(next.statement, p, k, names, labels, groups, fields) {
                     Step::Further(n) => {
                         p = n;
                         at = q;
@@ -65,16 +66,13 @@ fn read_statements(
     Answer::Refused(10, k)
 }
 
-// The sheet of a source, or the first refusal: "1 comes first, then 2. Then statements in order". Free is what the arrays hold
-// behind the fields of a sheet, and all that they hold where there is none; their lengths stay.
-pub fn read(source: &[u8], kinds: &mut [u8], values: &mut [u32]) -> Answer
-    ensures told { λ r. ⌜ told r (now (kinds .exit)) (now (values .exit)) ≡ answeredIn (now (source .entry)) (now (kinds .entry)) (now (values .entry)) ⌝ }
-    ensures kept { λ _. ⌜ (length (now (kinds .exit)) ≡ length (now (kinds .entry))) × (length (now (values .exit)) ≡ length (now (values .entry))) ⌝ }
+// The sheet of a source, or the first refusal: "1 comes first, then 2. Then statements in order". Free is what the array holds
+// behind the fields of a sheet, and all that it holds where there is none; its length stays.
+pub fn read(source: &[u8], fields: &mut [u64]) -> Answer
+    ensures told { λ r. ⌜ told r (now (fields .exit)) ≡ answeredIn (now (source .entry)) (now (fields .entry)) ⌝ }
+    ensures kept { λ _. ⌜ length (now (fields .exit)) ≡ length (now (fields .entry)) ⌝ }
 {
-    if kinds.len() != MOST_FIELDS {
-        return Answer::Unfit;
-    }
-    if values.len() != MOST_FIELDS {
+    if fields.len() != MOST_FIELDS {
         return Answer::Unfit;
     }
     if MOST_BYTES < source.len() {
@@ -85,5 +83,6 @@ pub fn read(source: &[u8], kinds: &mut [u8], values: &mut [u32]) -> Answer
     }
     let mut names = [0u8; TABLE_ROWS as usize * MOST_CELLS];
     let mut labels = [0u32; TABLE_ROWS as usize];
-    read_statements(source, &mut names, &mut labels, kinds, values)
+    let mut groups = [0u64; MOST_LEVELS as usize];
+    read_statements(source, &mut names, &mut labels, &mut groups, fields)
 }

@@ -1,5 +1,6 @@
-pub mod Finishing
-pub mod Instructing
-pub mod Placing
+pub mod Stages
+pub mod Counting
 pub mod Steps
-pub mod Parts
+pub mod Labelling
+pub mod Placing
+pub mod Instructing

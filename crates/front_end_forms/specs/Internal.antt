@@ -1,27 +1,36 @@
--- What the private function does.
-use Prim.Native.Nat.{ℕ, _≤_, _<_}
-use mathlib.Core.Bool.{true}
+-- What the private functions do.
+use Prim.Native.Nat.{ℕ, _+_, _<_}
+use mathlib.Core.Bool.{Bool, true, false}
 use mathlib.Core.Path.{_≡_}
 use mathlib.Core.List.{List}
-use lib.ListN.{length}
-use Rattle.sheet.specs.declared.Field.{Field}
-use Rattle.sheet.specs.Sheet.{Instruction}
-use Rattle.sheet.specs.Fields.{instructionFields}
-use Rattle.source.specs.Limits.{mostCells}
-use Rattle.source.specs.Program.{Program, jumpsIn, all, isLabel, withFewTemporaries, withFewOrders, placing}
+use lib.Dec.{ltb}
+use lib.ListN.{set}
+use Rattle.base.specs.Choice.{pick}
+use Rattle.sheet.specs.Within.{mostLevels}
+use Rattle.source.specs.Grammar.{Instruction}
+use Rattle.source.specs.Program.{Program, jumpsIn, all, isLabel, withFewTemporaries, withFewLevels, withFewOrders, placing}
+use Rattle.groups.specs.Memory.{groupWord}
 use Rattle.fields.specs.Memory.{statementNumbers}
 use Rattle.front_end_forms.specs.declared.Progress.{Progress}
 use Rattle.front_end_forms.specs.declared.Step.{Step}
 use Rattle.front_end_forms.specs.Memory.{Holds}
-use Rattle.front_end_forms.specs.Answers.{Comes, NoSheet}
+use Rattle.front_end_forms.specs.Answers.{Comes, NoSheet, IsInstruction}
 
--- an instruction with the fields fs, behind its labels
-abbrev pub Places : Progress → ℕ → List Field → List ℕ → List ℕ → Step → List ℕ → List ℕ → Type 0
-Places p k fs before-ks before-vs r ks vs =
+abbrev pub tooDeep : Bool → ℕ → ℕ → Bool
+tooDeep opens instructions many = pick (ltb many mostLevels) false (pick opens true (ltb 1 instructions))
+
+-- how many groups are open then, and the array that holds them
+abbrev pub Opens : ℕ → ℕ → Bool → ℕ → List ℕ → ℕ → List ℕ → Type 0
+Opens k began true many ws r after = (r ≡ many + 1) × (after ≡ set ws many (groupWord k 0 began))
+Opens k began false many ws r after = (r ≡ many) × (after ≡ ws)
+
+-- an instruction behind its labels
+abbrev pub Places : Progress → ℕ → List ℕ → Bool → List ℕ → List ℕ → Step → List ℕ → List ℕ → Type 0
+Places p k own opens before-gs before-fs r gs fs =
     (q : Program) (ns ls : List ℕ) (i : Instruction)
-    → Holds q p ns ls before-ks before-vs
+    → Holds q p ns ls before-gs before-fs
     → k < statementNumbers
-    → fs ≡ instructionFields i
-    → length fs ≤ mostCells
+    → IsInstruction own opens i
     → all isLabel (jumpsIn i) ≡ true
-    → Comes (λ o n. Holds o n ns ls ks vs) NoSheet r (withFewTemporaries k i (withFewOrders k (placing k i q)))
+    → Comes (λ o n. Holds o n ns ls gs fs) NoSheet r
+    (withFewTemporaries k i (withFewLevels k (q .groups) i (withFewOrders k (placing k i q))))

@@ -1,60 +1,84 @@
 -- A program in memory: what numbers and arrays hold of it while it is read.
-use Prim.Native.Nat.{ℕ, _*_, _≤_, _<_}
-use mathlib.Core.Bool.{true}
+use Prim.Native.Nat.{ℕ, _+_, _*_, _≤_, _<_}
 use mathlib.Core.Path.{_≡_}
 use mathlib.Core.List.{List, [], _∷_, _++_, map}
 use lib.ListN.{length}
 use Rattle.order.specs.Limits.{mostVariables, mostOrders}
 use Rattle.sheet.specs.declared.Field.{Field}
-use Rattle.sheet.specs.Sheet.{Sheet, variables, instructions as instructionsOf}
-use Rattle.sheet.specs.Fields.{instructionFields, sheetFields}
-use Rattle.sheet.specs.Translation.{ordersOfAll}
+use Rattle.sheet.specs.declared.Field.the-variants.{Else}
+use Rattle.sheet.specs.Sheet.{Part, count, Sheet, variables, instructions as instructionsOf}
+use Rattle.sheet.specs.Fields.{partFields, sheetFields}
+use Rattle.sheet.specs.Translation.{size}
+use Rattle.sheet.specs.Within.{mostLevels}
 use Rattle.sheet_field.specs.Memory.{fieldsFrom, mostFields}
 use Rattle.source.specs.Limits.{mostCells, mostLabels}
 use Rattle.source.specs.Memory.{tableRows}
-use Rattle.source.specs.Program.{Program, Part, nothing, declarations, instructions, Placed, placed, instructionOf, jumpsIn, all, isLabel}
+use Rattle.source.specs.Grammar.{ifStart}
+use Rattle.source.specs.Fields.{instructionFields}
+use Rattle.source.specs.Program.{Program, Stage, nothing, declarations, instructions, Label, Jump, Group, first, second, countOutside, ordersOutside}
 use Rattle.names.specs.Memory.{namesOf}
-use Rattle.labels.specs.Memory.{labelsOf}
-use Rattle.fields.specs.Memory.{packedField, statementNumbers}
+use Rattle.labels.specs.Memory.{labelsOf, SoFar}
+use Rattle.groups.specs.Memory.{GroupsHeld}
+use Rattle.fields.specs.Memory.{fieldJumps, unpacked, jumpIn}
 use Rattle.front_end_forms.specs.declared.Progress.{Progress}
 
-abbrev pub partNumber : Part → ℕ
-partNumber nothing = 0
-partNumber declarations = 1
-partNumber instructions = 2
-
--- the fields of placed instructions in memory, where a jump carries its statement's number too
-unfoldable pub placedFields : List Placed → List Field
-placedFields [] = []
-placedFields (placed k i ∷ ps) = map (packedField k) (instructionFields i) ++ placedFields ps
-
--- that the numbers of statements and labels leave room for each other
-unfoldable pub AllPacked : List Placed → Type 0
-AllPacked [] = Unit {0}
-AllPacked (placed k i ∷ ps) = (k < statementNumbers) × (all isLabel (jumpsIn i) ≡ true) × AllPacked ps
+abbrev pub stageNumber : Stage → ℕ
+stageNumber nothing = 0
+stageNumber declarations = 1
+stageNumber instructions = 2
 
 abbrev pub noProgress : Progress
-noProgress = record { part = 0; names = 0; labels = 0; fields = 0; instructions = 0; orders = 0 }
+noProgress = record { stage = 0; names = 0; labels = 0; fields = 0; instructions = 0; orders = 0; groups = 0 }
 
--- what holds of numbers and arrays that hold the program q
-pub record Holds (q : Program) (p : Progress) (names labels kinds values : List ℕ) : Type 0 where
-  pub parted : p .part ≡ partNumber (q .part)
-  pub named : namesOf (p .names) names ≡ q .names
-  pub labelled : labelsOf (p .labels) labels ≡ q .set
-  pub fielded : fieldsFrom 0 (p .fields) kinds values ≡ placedFields (q .placed-in)
-  pub counted : p .instructions ≡ length (q .placed-in)
-  pub ordered : (v : ℕ) → p .orders ≡ ordersOfAll v (map instructionOf (q .placed-in))
-  pub packed : AllPacked (q .placed-in)
-  pub few-names : p .names ≤ mostVariables
-  pub few-labels : p .labels ≤ mostLabels
-  pub few-orders : p .orders < mostOrders
-  pub room-for-names : length names ≡ tableRows * mostCells
-  pub room-for-labels : length labels ≡ tableRows
-  pub room-for-kinds : length kinds ≡ mostFields
-  pub room-for-values : length values ≡ mostFields
+-- the fields before the innermost list that is not closed, and all of them
+unfoldable pub outsideFields : List Group → List Field
+outsideFields [] = []
+outsideFields (first k x c ∷ gs) = outsideFields gs ++ (partFields x ++ instructionFields (ifStart c))
+outsideFields (second k x c y ∷ gs) =
+    outsideFields gs ++ (partFields x ++ (instructionFields (ifStart c) ++ (partFields y ++ (Else ∷ []))))
+
+abbrev pub programFields : List Group → Part → List Field
+programFields gs x = outsideFields gs ++ partFields x
+
+-- a table holds the names of v variables
+pub record HoldsNames (ns : List (List ℕ)) (v : ℕ) (table : List ℕ) : Type 0 where
+  pub named : namesOf v table ≡ ns
+  pub few-names : v ≤ mostVariables
+  pub room-for-names : length table ≡ tableRows * mostCells
+
+-- a table holds c labels, where n is the number of the next instruction
+pub record HoldsLabels (ls : List Label) (c n : ℕ) (table : List ℕ) : Type 0 where
+  pub labelled : labelsOf n c table ≡ ls
+  pub so-far : SoFar n c table
+  pub few-labels : c ≤ mostLabels
+  pub room-for-labels : length table ≡ tableRows
+
+-- an array holds open groups
+pub record HoldsGroups (gs : List Group) (many : ℕ) (array : List ℕ) : Type 0 where
+  pub grouped : GroupsHeld gs array
+  pub opened : many ≡ length gs
+  pub few-levels : many ≤ mostLevels
+  pub room-for-groups : length array ≡ mostLevels
+
+-- an array holds the fields of instructions, whose jumps carry their statements too
+pub record HoldsFields (gs : List Group) (x : Part) (js : List Jump) (n many orders : ℕ) (array : List ℕ) : Type 0 where
+  pub fielded : map unpacked (fieldsFrom 0 n array) ≡ programFields gs x
+  pub jumped : map jumpIn (fieldJumps (fieldsFrom 0 n array)) ≡ js
+  pub counted : many ≡ countOutside gs + count x
+  pub ordered : (v : ℕ) → orders ≡ ordersOutside v gs + size v x
+  pub few-orders : orders < mostOrders
+  pub room-for-fields : length array ≡ mostFields
+
+-- numbers and arrays hold the program q
+pub record Holds (q : Program) (p : Progress) (names labels groups fields : List ℕ) : Type 0 where
+  pub staged : p .stage ≡ stageNumber (q .stage)
+  pub its-names : HoldsNames (q .names) (p .names) names
+  pub its-labels : HoldsLabels (q .set) (p .labels) (p .instructions + 1) labels
+  pub its-groups : HoldsGroups (q .groups) (p .groups) groups
+  pub its-fields : HoldsFields (q .groups) (q .here) (q .jumps) (p .fields) (p .instructions) (p .orders) fields
 
 -- the sheet that the program is, in memory
-pub record Held (p : Progress) (kinds values : List ℕ) (s : Sheet) : Type 0 where
+pub record Held (p : Progress) (fields : List ℕ) (s : Sheet) : Type 0 where
   pub variables-too : p .names ≡ variables s
-  pub instructions-too : p .instructions ≡ length (instructionsOf s)
-  pub fields-too : fieldsFrom 0 (p .fields) kinds values ≡ sheetFields s
+  pub instructions-too : p .instructions ≡ count (instructionsOf s)
+  pub fields-too : fieldsFrom 0 (p .fields) fields ≡ sheetFields s

@@ -1,10 +1,10 @@
-// What a statement of each form does to the program so far, document 01: names, labels, limits, and its place in the sheet.
-use fields::Led;
+// What declarations, labels and instructions do to the program so far, document 01 and 02, L1: names, labels, limits, and their place
+// in the sheet.
 use fields::Put;
 use fields::all_known;
 use fields::append;
 use fields::good_jumps;
-use fields::lead_jumps;
+use groups::put_first;
 use labels::Set;
 use labels::set_labels;
 use names::Declared;
@@ -14,26 +14,28 @@ use order::MOST_TEMPORARIES;
 use order::MOST_VARIABLES;
 use source::MOST_LABELS;
 use translate_size::size_of;
-ghost use Prim.Native.Nat.{_≤_, _<_};
+ghost use Prim.Native.Nat.{_≤_};
 ghost use mathlib.Core.Path.{_≡_};
-ghost use Rattle.order.specs.Limits.{mostOrders};
-ghost use Rattle.sheet_field.specs.Memory.{fieldsFrom};
-ghost use Rattle.source.specs.Limits.{mostCells};
+ghost use Rattle.sheet.specs.Within.{mostLevels};
 ghost use Rattle.source.specs.Memory.{lexemesFrom};
 ghost use Rattle.labels.specs.Memory.{labelsAt};
 ghost use Rattle.front_end_forms.specs.Memory.{noProgress};
-ghost use Rattle.front_end_forms.specs.Answers.{Begins, Declares, KeepsCounts, SetsLabels, Instructs, Finishes, FewCounts};
-ghost use Rattle.front_end_forms.specs.Internal.{Places};
+ghost use Rattle.front_end_forms.specs.Answers.{Begins, Declares, KeepsCounts, SetsLabels, Instructs, FewCounts};
+ghost use Rattle.front_end_forms.specs.Internal.{tooDeep, Opens, Places};
 
-// How far a program was read: which part of it (0 nothing, 1 declarations, 2 instructions), and how many names, labels,
-// fields, instructions and orders there are.
+// `mostLevels` of sheet/specs/Within.antt.
+pub const MOST_LEVELS: u32 = 16;
+
+// How far a program was read: which stage it is in (0 nothing, 1 declarations, 2 instructions), and how many names, labels,
+// fields, instructions, orders and open groups there are.
 pub struct Progress {
-    pub part: u8,
+    pub stage: u8,
     pub names: u8,
     pub labels: u32,
     pub fields: usize,
     pub instructions: u32,
     pub orders: u32,
+    pub groups: u32,
 }
 
 // What comes of a statement: the program goes on, is refused with a number and a place, or is a whole sheet; or what is given is
@@ -49,12 +51,13 @@ pub fn nothing_read() -> Progress
     ensures { λ r. ⌜ r ≡ noProgress ⌝ }
 {
     Progress {
-        part: 0,
+        stage: 0,
         names: 0,
         labels: 0,
         fields: 0,
         instructions: 0,
         orders: 0,
+        groups: 0,
     }
 }
 
@@ -62,16 +65,17 @@ pub fn nothing_read() -> Progress
 pub fn begin(p: Progress, k: u32) -> Step
     ensures { λ r. ⌜ Begins p k r ⌝ }
 {
-    if p.part != 0 {
+    if p.stage != 0 {
         return Step::Refused(7, k);
     }
     Step::Further(Progress {
-        part: 1,
+        stage: 1,
         names: p.names,
         labels: p.labels,
         fields: p.fields,
         instructions: p.instructions,
         orders: p.orders,
+        groups: p.groups,
     })
 }
 
@@ -87,7 +91,7 @@ pub fn declaration(
 ) -> Step
     ensures { λ r. ⌜ Declares p k (lexemesFrom 0 n (now (cells .entry)) (now (kinds .entry)) (now (values .entry))) (now (names .entry)) r (now (names .exit)) ⌝ }
 {
-    if p.part != 1 {
+    if p.stage != 1 {
         return Step::Refused(7, k);
     }
     match declare(cells, kinds, values, n, names, p.names) {
@@ -96,12 +100,13 @@ pub fn declaration(
                 return Step::Refused(11, k);
             }
             Step::Further(Progress {
-                part: 1,
+                stage: 1,
                 names: v,
                 labels: p.labels,
                 fields: p.fields,
                 instructions: p.instructions,
                 orders: p.orders,
+                groups: p.groups,
             })
         }
         Declared::Refused => Step::Refused(8, k),
@@ -118,11 +123,11 @@ pub fn label(
     many: usize,
     labels: &mut [u32],
 ) -> Step
-    requires { ⌜ p .instructions < mostOrders ⌝ }
+    requires { ⌜ FewCounts p ⌝ }
     ensures kept { λ r. ⌜ KeepsCounts p r ⌝ }
     ensures set { λ r. ⌜ SetsLabels p k (labelsAt many (now (kinds .entry)) (now (values .entry))) (now (labels .entry)) r (now (labels .exit)) ⌝ }
 {
-    if p.part == 0 {
+    if p.stage == 0 {
         return Step::Refused(7, k);
     }
     match set_labels(kinds, values, many, labels, p.labels, p.instructions + 1) {
@@ -131,12 +136,13 @@ pub fn label(
                 return Step::Refused(11, k);
             }
             Step::Further(Progress {
-                part: 2,
+                stage: 2,
                 names: p.names,
                 labels: c,
                 fields: p.fields,
                 instructions: p.instructions,
                 orders: p.orders,
+                groups: p.groups,
             })
         }
         Set::Refused => Step::Refused(9, k),
@@ -144,36 +150,66 @@ pub fn label(
     }
 }
 
-// An instruction behind its labels: the limits, and its place behind the others.
+// Whether an IF stands too deep, that is one that opens a group or has others in it, where so many groups are open.
+fn too_deep(opens: bool, instructions: u32, count: u32) -> bool
+    ensures { λ r. ⌜ r ≡ tooDeep opens instructions count ⌝ }
+{
+    if count < MOST_LEVELS {
+        return false;
+    }
+    if opens {
+        return true;
+    }
+    1 < instructions
+}
+
+// Opens a group of statement k, where there is one to be opened.
+fn open_group(groups: &mut [u64], count: u32, k: u32, began: u32, opens: bool) -> u32
+    requires { ⌜ count ≤ mostLevels ⌝ }
+    ensures { λ r. ⌜ Opens k began opens count (now (groups .entry)) r (now (groups .exit)) ⌝ }
+{
+    if opens {
+        put_first(groups, count, k, began);
+        return count + 1;
+    }
+    count
+}
+
+// An instruction behind its labels: the limits, and its place behind the others. `opens`: it goes on behind a START.
 fn place(
     p: Progress,
     k: u32,
-    own: &[u8],
-    carried: &[u32],
-    m: usize,
-    kinds: &mut [u8],
-    values: &mut [u32],
+    own: &[u64],
+    opens: bool,
+    groups: &mut [u64],
+    fields: &mut [u64],
 ) -> Step
-    requires { ⌜ FewCounts p × (m ≤ mostCells) ⌝ }
-    ensures { λ r. ⌜ Places p k (fieldsFrom 0 m (now (own .entry)) (now (carried .entry))) (now (kinds .entry)) (now (values .entry)) r (now (kinds .exit)) (now (values .exit)) ⌝ }
+    requires { ⌜ FewCounts p ⌝ }
+    ensures { λ r. ⌜ Places p k (now (own .entry)) opens (now (groups .entry)) (now (fields .entry)) r (now (groups .exit)) (now (fields .exit)) ⌝ }
 {
-    let size = size_of(own, carried, m, 0);
+    let size = size_of(own);
     if MOST_TEMPORARIES < size.temporaries {
         return Step::Refused(11, k);
     }
     if MOST_ORDERS - p.orders <= size.orders {
         return Step::Refused(11, k);
     }
-    let Put::Fields(fields) = append(own, carried, m, k, kinds, values, p.fields) else {
+    if too_deep(opens, size.instructions, p.groups) {
+        return Step::Refused(11, k);
+    }
+    let Put::Fields(n) = append(own, k, fields, p.fields) else {
         return Step::Unfit;
     };
+    let instructions = p.instructions + size.instructions;
+    let count = open_group(groups, p.groups, k, instructions, opens);
     Step::Further(Progress {
-        part: 2,
+        stage: 2,
         names: p.names,
         labels: p.labels,
-        fields: fields,
-        instructions: p.instructions + 1,
+        fields: n,
+        instructions,
         orders: p.orders + size.orders,
+        groups: count,
     })
 }
 
@@ -184,23 +220,22 @@ pub fn instruction(
     tokens: &[u8],
     words: &[u32],
     many: usize,
-    own: &[u8],
-    carried: &[u32],
-    m: usize,
+    own: &[u64],
+    opens: bool,
     labels: &mut [u32],
-    kinds: &mut [u8],
-    values: &mut [u32],
+    groups: &mut [u64],
+    fields: &mut [u64],
 ) -> Step
-    requires { ⌜ FewCounts p × (m ≤ mostCells) ⌝ }
-    ensures { λ r. ⌜ Instructs p k (labelsAt many (now (tokens .entry)) (now (words .entry))) (fieldsFrom 0 m (now (own .entry)) (now (carried .entry))) (now (labels .entry)) (now (kinds .entry)) (now (values .entry)) r (now (labels .exit)) (now (kinds .exit)) (now (values .exit)) ⌝ }
+    requires { ⌜ FewCounts p ⌝ }
+    ensures { λ r. ⌜ Instructs p k (labelsAt many (now (tokens .entry)) (now (words .entry))) (now (own .entry)) opens (now (labels .entry)) (now (groups .entry)) (now (fields .entry)) r (now (labels .exit)) (now (groups .exit)) (now (fields .exit)) ⌝ }
 {
-    if p.part == 0 {
+    if p.stage == 0 {
         return Step::Refused(7, k);
     }
-    if all_known(own, carried, m) {
-        if good_jumps(own, carried, m) {
+    if all_known(own) {
+        if good_jumps(own) {
             return match label(p, k, tokens, words, many, labels) {
-                Step::Further(q) => place(q, k, own, carried, m, kinds, values),
+                Step::Further(q) => place(q, k, own, opens, groups, fields),
                 Step::Refused(n, at) => Step::Refused(n, at),
                 Step::Given => Step::Given,
                 Step::Unfit => Step::Unfit,
@@ -209,18 +244,4 @@ pub fn instruction(
         return Step::Refused(9, k);
     }
     Step::Refused(8, k)
-}
-
-// %ENDOFPROGRAM
-pub fn finish(p: Progress, k: u32, labels: &[u32], kinds: &[u8], values: &mut [u32]) -> Step
-    ensures { λ r. ⌜ Finishes p k (now (labels .entry)) (now (kinds .entry)) (now (values .entry)) r (now (values .exit)) ⌝ }
-{
-    if p.part == 0 {
-        return Step::Refused(7, k);
-    }
-    match lead_jumps(kinds, values, p.fields, labels, p.labels) {
-        Led::All => Step::Given,
-        Led::Unset(s) => Step::Refused(9, s),
-        Led::Unfit => Step::Unfit,
-    }
 }

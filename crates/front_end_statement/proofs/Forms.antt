@@ -4,51 +4,79 @@ use mathlib.Core.Bool.{Bool, true, false}
 use mathlib.Core.Path.{_≡_, refl, sym, ap, _∙_}
 use mathlib.Core.List.{List, [], _∷_, map}
 use native.Mathlib.Omega.{arith}
-use lib.ListN.{length, length-map, length-take}
+use lib.ListN.{length, length-map, take, length-take}
 use Rattle.base.specs.Choice.{pick}
 use Rattle.base.specs.Places.{each}
 use Rattle.base.proofs.Cases.{both-yes, by-test}
 use Rattle.base.proofs.Places.{each-length}
 use Rattle.sheet.specs.declared.Field.{Field}
-use Rattle.sheet.specs.Sheet.{Instruction as SheetInstruction, Sheet}
-use Rattle.sheet.specs.Fields.{instructionFields}
+use Rattle.sheet.specs.Sheet.{Sheet}
 use Rattle.sheet_field.specs.Memory.{fieldsFrom}
-use Rattle.sheet_field.proofs.Stored.{fields-length}
+use Rattle.sheet_field.proofs.Stored.{fields-front}
 use Rattle.source.specs.declared.Token.{Token}
 use Rattle.source.specs.declared.Token.the-variants.{Name, Number, Quoted, Binary, Compare, Mark}
 use Rattle.source.specs.declared.Statement.{Statement}
-use Rattle.source.specs.Tokens.{Lexeme, name, token, Lexed, lexed, markInteger, markBegin, markEnd, markComma, lexemes, refused as wrong}
-use Rattle.source.specs.Grammar.{Form, beginning, declaration, ending, labels, instruction, noForm, behindFirst, opens, isName, isMark, isNameList}
-use Rattle.source.specs.Grammar.{form, alone, Labelled, labelled as labelledTokens, labelledForm, labelsAt as labelsBefore, whole, instructionAt}
+use Rattle.source.specs.Tokens.{Lexeme, name, token, Lexed, lexed, markInteger, markBegin, markEnd, markComma, markFinish, markElse, markStart, lexemes, refused as wrong}
+use Rattle.source.specs.Grammar.{Instruction as Instructing, simple, ifThen, ifElse, ifStart}
+use Rattle.source.specs.Grammar.{Form, beginning, declaration, ending, labels, instruction, finish, finishElse, noForm, behindFirst, opens, isName, isMark, isNameList}
+use Rattle.source.specs.Grammar.{form, only, finishing, Labelled, labelled as labelledTokens, labelledForm, labelsAt as labelsBefore, entire, instructionAt}
 use Rattle.source.specs.Grammar.{Read, read, none}
+use Rattle.source.specs.Fields.{instructionFields}
 use Rattle.source.specs.Memory.{tokensFrom, lexemeOf, lexemesFrom, held}
-use Rattle.source.specs.Program.{lookedUp, namesIn, Program, Part, nothing, declarations, instructions, inOrder, refused, statement, Outcome, onLexed}
+use Rattle.source.specs.Program.{lookedUp, namesIn, Program, Stage, nothing, declarations, instructions, inOrder, refused, statement, Outcome, onLexed}
 use Rattle.source.proofs.Stored.{lexemes-each}
 use Rattle.tokens.specs.declared.Lexed.{Lexed as Lexing}
 use Rattle.tokens.specs.declared.Lexed.the-variants.{Tokens, Refused as Wrong, Unfit as NotFit}
 use Rattle.tokens.specs.Answers.{Told as ToldTokens, told as toldTokens, unfit as unfitTokens, lexedIn, lexedOf, Few as FewTokens}
 use Rattle.tokens.proofs.Scanning.{lexed-fit, told-short}
 use Rattle.grammar.specs.declared.Form.{Form as Answer}
-use Rattle.grammar.specs.declared.Form.the-variants.{Begin, Declaration, End, Labels, Instruction, Nothing, Unfit}
-use Rattle.grammar.specs.Answers.{Few, told, Told, begins, declares, ends, labels as labelled, instruction as instructs, refusal as noTold, unfit, fieldsOf}
+use Rattle.grammar.specs.declared.Form.the-variants.{Begin, Declaration, End, Labels, Instruction, Opening, Finish, FinishElse, Nothing, Unfit}
+use Rattle.grammar.specs.Answers.{Few, told, Told, begins, declares, ends, labels as labelled, instruction as instructs, opening, finishes, goesOn as goesFurther, refusal as noTold, unfit, fieldsOf}
 use Rattle.grammar.specs.Answers.{labelsIn}
 use Rattle.labels.specs.Memory.{labelsAt, labelHere}
 use Rattle.front_end_forms.specs.declared.Progress.{Progress}
 use Rattle.front_end_forms.specs.declared.Step.{Step}
 use Rattle.front_end_forms.specs.declared.Step.the-variants.{Refused}
-use Rattle.front_end_forms.specs.Answers.{Comes, refuses, goes, gives, NoSheet}
-use Rattle.front_end_forms.proofs.Steps.{comes-refused}
+use Rattle.front_end_forms.specs.Answers.{Comes, refuses, goes, gives, NoSheet, goesOn, IsInstruction as Instructed}
+use Rattle.front_end_forms.proofs.Stages.{comes-refused}
 
 -- ---- which form it is
 
-abbrev number : Told → ℕ
-number begins = 0
-number declares = 1
-number ends = 2
-number (labelled ls) = 3
-number (instructs ls fs) = 4
-number (noTold n) = 5
-number unfit = 6
+-- an instruction with these labels and fields, and whether it goes on behind a START
+pub record IsInstruction (g : Form) (ls : List ℕ) (fs : List Field) (opens : Bool) : Type 0 where
+  pub what : Instructing
+  pub same : g ≡ instruction ls what
+  pub fields-same : fs ≡ instructionFields what
+  pub opening-same : opens ≡ goesOn what
+
+-- the form that the grammar tells of
+abbrev Tells : Told → Form → Type 0
+Tells begins g = g ≡ beginning
+Tells declares g = g ≡ declaration
+Tells ends g = g ≡ ending
+Tells (labelled ls) g = g ≡ labels ls
+Tells (instructs ls fs) g = IsInstruction g ls fs false
+Tells (opening ls fs) g = IsInstruction g ls fs true
+Tells finishes g = g ≡ finish
+Tells goesFurther g = g ≡ finishElse
+Tells (noTold n) g = (g ≡ noForm) × (n ≡ 7)
+Tells unfit g = ⊥
+
+tells : (g : Form) → Tells (fieldsOf g) g
+tells beginning = refl
+tells declaration = refl
+tells ending = refl
+tells (labels ls) = refl
+tells (instruction ls (simple u)) = record { what = simple u; same = refl; fields-same = refl; opening-same = refl }
+tells (instruction ls (ifThen c u)) = record { what = ifThen c u; same = refl; fields-same = refl; opening-same = refl }
+tells (instruction ls (ifElse c u w)) = record { what = ifElse c u w; same = refl; fields-same = refl; opening-same = refl }
+tells (instruction ls (ifStart c)) = record { what = ifStart c; same = refl; fields-same = refl; opening-same = refl }
+tells finish = refl
+tells finishElse = refl
+tells noForm = (refl, refl)
+
+pub its-form : (t : Told) (g : Form) → t ≡ fieldsOf g → Tells t g
+its-form t g e = rw e (tells g)
 
 abbrev formNumber : Form → ℕ
 formNumber beginning = 0
@@ -56,110 +84,9 @@ formNumber declaration = 1
 formNumber ending = 2
 formNumber (labels ls) = 3
 formNumber (instruction ls i) = 4
-formNumber noForm = 5
-
-number-same : (g : Form) → number (fieldsOf g) ≡ formNumber g
-number-same beginning = refl
-number-same declaration = refl
-number-same ending = refl
-number-same (labels ls) = refl
-number-same (instruction ls i) = refl
-number-same noForm = refl
-
-abbrev labelsTold : List ℕ → Told → List ℕ
-labelsTold d begins = d
-labelsTold d declares = d
-labelsTold d ends = d
-labelsTold d (labelled ls) = ls
-labelsTold d (instructs ls fs) = ls
-labelsTold d (noTold n) = d
-labelsTold d unfit = d
-
-abbrev fieldsTold : List Field → Told → List Field
-fieldsTold d begins = d
-fieldsTold d declares = d
-fieldsTold d ends = d
-fieldsTold d (labelled ls) = d
-fieldsTold d (instructs ls fs) = fs
-fieldsTold d (noTold n) = d
-fieldsTold d unfit = d
-
-abbrev refusalTold : ℕ → Told → ℕ
-refusalTold d begins = d
-refusalTold d declares = d
-refusalTold d ends = d
-refusalTold d (labelled ls) = d
-refusalTold d (instructs ls fs) = d
-refusalTold d (noTold n) = n
-refusalTold d unfit = d
-
-module _ {A : Type 0} where
-  other : (g : Form) {t : Told} (n : ℕ) → t ≡ fieldsOf g → number t ≡ n → (formNumber g ≡ n → ⊥) → A
-  other g n e m not-so = absurd (not-so (sym (number-same g) ∙ sym (ap number e) ∙ m))
-
-pub is-begin : (g : Form) → begins ≡ fieldsOf g → g ≡ beginning
-is-begin beginning e = refl
-is-begin declaration e = other declaration 0 e refl (λ z. absurd (omega (arith, z)))
-is-begin ending e = other ending 0 e refl (λ z. absurd (omega (arith, z)))
-is-begin (labels ls) e = other (labels ls) 0 e refl (λ z. absurd (omega (arith, z)))
-is-begin (instruction ls i) e = other (instruction ls i) 0 e refl (λ z. absurd (omega (arith, z)))
-is-begin noForm e = other noForm 0 e refl (λ z. absurd (omega (arith, z)))
-
-pub is-declaration : (g : Form) → declares ≡ fieldsOf g → g ≡ declaration
-is-declaration beginning e = other beginning 1 e refl (λ z. absurd (omega (arith, z)))
-is-declaration declaration e = refl
-is-declaration ending e = other ending 1 e refl (λ z. absurd (omega (arith, z)))
-is-declaration (labels ls) e = other (labels ls) 1 e refl (λ z. absurd (omega (arith, z)))
-is-declaration (instruction ls i) e = other (instruction ls i) 1 e refl (λ z. absurd (omega (arith, z)))
-is-declaration noForm e = other noForm 1 e refl (λ z. absurd (omega (arith, z)))
-
-pub is-end : (g : Form) → ends ≡ fieldsOf g → g ≡ ending
-is-end beginning e = other beginning 2 e refl (λ z. absurd (omega (arith, z)))
-is-end declaration e = other declaration 2 e refl (λ z. absurd (omega (arith, z)))
-is-end ending e = refl
-is-end (labels ls) e = other (labels ls) 2 e refl (λ z. absurd (omega (arith, z)))
-is-end (instruction ls i) e = other (instruction ls i) 2 e refl (λ z. absurd (omega (arith, z)))
-is-end noForm e = other noForm 2 e refl (λ z. absurd (omega (arith, z)))
-
-pub is-labels : (g : Form) (ls : List ℕ) → labelled ls ≡ fieldsOf g → g ≡ labels ls
-is-labels beginning ls e = other beginning 3 e refl (λ z. absurd (omega (arith, z)))
-is-labels declaration ls e = other declaration 3 e refl (λ z. absurd (omega (arith, z)))
-is-labels ending ls e = other ending 3 e refl (λ z. absurd (omega (arith, z)))
-is-labels (labels ms) ls e = ap labels (sym (ap (labelsTold ls) e))
-is-labels (instruction ms i) ls e = other (instruction ms i) 3 e refl (λ z. absurd (omega (arith, z)))
-is-labels noForm ls e = other noForm 3 e refl (λ z. absurd (omega (arith, z)))
-
--- no form, with the number of its refusal
-pub is-nothing : (g : Form) (n : ℕ) → noTold n ≡ fieldsOf g → (g ≡ noForm) × (n ≡ 7)
-is-nothing beginning n e = other beginning 5 e refl (λ z. absurd (omega (arith, z)))
-is-nothing declaration n e = other declaration 5 e refl (λ z. absurd (omega (arith, z)))
-is-nothing ending n e = other ending 5 e refl (λ z. absurd (omega (arith, z)))
-is-nothing (labels ls) n e = other (labels ls) 5 e refl (λ z. absurd (omega (arith, z)))
-is-nothing (instruction ls i) n e = other (instruction ls i) 5 e refl (λ z. absurd (omega (arith, z)))
-is-nothing noForm n e = (refl, ap (refusalTold n) e)
-
-pub never-unfit : {A : Type 0} (g : Form) → unfit ≡ fieldsOf g → A
-never-unfit beginning e = other beginning 6 e refl (λ z. absurd (omega (arith, z)))
-never-unfit declaration e = other declaration 6 e refl (λ z. absurd (omega (arith, z)))
-never-unfit ending e = other ending 6 e refl (λ z. absurd (omega (arith, z)))
-never-unfit (labels ls) e = other (labels ls) 6 e refl (λ z. absurd (omega (arith, z)))
-never-unfit (instruction ls i) e = other (instruction ls i) 6 e refl (λ z. absurd (omega (arith, z)))
-never-unfit noForm e = other noForm 6 e refl (λ z. absurd (omega (arith, z)))
-
--- an instruction with these labels and fields
-pub record IsInstruction (g : Form) (ls : List ℕ) (fs : List Field) : Type 0 where
-  pub what : SheetInstruction
-  pub same : g ≡ instruction ls what
-  pub fields-same : fs ≡ instructionFields what
-
-pub is-instruction : (g : Form) (ls : List ℕ) (fs : List Field) → instructs ls fs ≡ fieldsOf g → IsInstruction g ls fs
-is-instruction beginning ls fs e = other beginning 4 e refl (λ z. absurd (omega (arith, z)))
-is-instruction declaration ls fs e = other declaration 4 e refl (λ z. absurd (omega (arith, z)))
-is-instruction ending ls fs e = other ending 4 e refl (λ z. absurd (omega (arith, z)))
-is-instruction (labels ms) ls fs e = other (labels ms) 4 e refl (λ z. absurd (omega (arith, z)))
-is-instruction (instruction ms i) ls fs e =
-    record { what = i; same = ap (λ l. instruction l i) (sym (ap (labelsTold ls) e)); fields-same = ap (fieldsTold fs) e }
-is-instruction noForm ls fs e = other noForm 4 e refl (λ z. absurd (omega (arith, z)))
+formNumber finish = 5
+formNumber finishElse = 6
+formNumber noForm = 7
 
 -- ---- the labels that the tokens carry
 
@@ -220,9 +147,24 @@ labels-form : (ls : List ℕ) → labels ls ≡ labelledForm (labelledTokens ls 
 unfolding labelledForm
 labels-form ls = refl
 
-whole-form : (ls : List ℕ) (t : Token) (ts : List Token) → whole ls (instructionAt (t ∷ ts)) ≡ labelledForm (labelledTokens ls (t ∷ ts))
+entire-form : (ls : List ℕ) (t : Token) (ts : List Token) → entire ls (instructionAt (t ∷ ts)) ≡ labelledForm (labelledTokens ls (t ∷ ts))
 unfolding labelledForm
-whole-form ls t ts = refl
+entire-form ls t ts = refl
+
+only-not : (f : Form) (l : List Token) → only f l ≡ declaration → (formNumber f ≡ 1 → ⊥) → ⊥
+only-not f [] z not-so = not-so (ap formNumber z)
+only-not f (x ∷ l) z not-so = let n : _≡_ {A = ℕ} 7 1 = ap formNumber z in absurd (omega arith)
+
+finishing-not : (l : List Token) → finishing l ≡ declaration → ⊥
+unfolding finishing pick
+finishing-not l z =
+    by-test
+    (opens markElse l)
+    (λ x. by-test
+    (opens markStart (behindFirst l))
+    (λ y. only-not finishElse (behindFirst (behindFirst l)) (rw (x, y) at z) (λ n. absurd (omega (arith, n))))
+    (λ y. let n : _≡_ {A = ℕ} 7 1 = ap formNumber (rw (x, y) at z) in absurd (omega arith)))
+    (λ x. only-not finish l (rw x at z) (λ n. absurd (omega (arith, n))))
 
 -- a choice that is a declaration was made for one
 declared-list : (ts : List Token) → form ts ≡ declaration → (opens markInteger ts ≡ true) × (isNameList (behindFirst ts) ≡ true)
@@ -230,30 +172,29 @@ unfolding form pick
 declared-list ts e =
     by-test
     (opens markBegin ts)
-    (λ t. absurd (alone-not beginning (behindFirst ts) (rw t at e) (λ z. absurd (omega (arith, z)))))
+    (λ t. absurd (only-not beginning (behindFirst ts) (rw t at e) (λ z. absurd (omega (arith, z)))))
     (λ t. by-test
     (opens markEnd ts)
-    (λ u. absurd (alone-not ending (behindFirst ts) (rw (t, u) at e) (λ z. absurd (omega (arith, z)))))
+    (λ u. absurd (only-not ending (behindFirst ts) (rw (t, u) at e) (λ z. absurd (omega (arith, z)))))
     (λ u. by-test
     (opens markInteger ts)
     (λ w. by-test
     (isNameList (behindFirst ts))
     (λ x. (w, x))
-    (λ x. let z : _≡_ {A = ℕ} 5 1 = ap formNumber (rw (t, u, w, x) at e) in absurd (omega arith)))
-    (λ w. absurd (labelled-not (labelsBefore ts) (rw (t, u, w) at e)))))
+    (λ x. let z : _≡_ {A = ℕ} 7 1 = ap formNumber (rw (t, u, w, x) at e) in absurd (omega arith)))
+    (λ w. by-test
+    (opens markFinish ts)
+    (λ x. absurd (finishing-not (behindFirst ts) (rw (t, u, w, x) at e)))
+    (λ x. absurd (labelled-not (labelsBefore ts) (rw (t, u, w, x) at e))))))
   where
-    alone-not : (f : Form) (l : List Token) → alone f l ≡ declaration → (formNumber f ≡ 1 → ⊥) → ⊥
-    alone-not f [] z not-so = not-so (ap formNumber z)
-    alone-not f (x ∷ l) z not-so = let n : _≡_ {A = ℕ} 5 1 = ap formNumber z in absurd (omega arith)
-
-    whole-not : (ls : List ℕ) (r : Read SheetInstruction) → whole ls r ≡ declaration → ⊥
-    whole-not ls none z = let n : _≡_ {A = ℕ} 5 1 = ap formNumber z in absurd (omega arith)
-    whole-not ls (read i []) z = let n : _≡_ {A = ℕ} 4 1 = ap formNumber z in absurd (omega arith)
-    whole-not ls (read i (x ∷ l)) z = let n : _≡_ {A = ℕ} 5 1 = ap formNumber z in absurd (omega arith)
+    entire-not : (ls : List ℕ) (r : Read Instructing) → entire ls r ≡ declaration → ⊥
+    entire-not ls none z = let n : _≡_ {A = ℕ} 7 1 = ap formNumber z in absurd (omega arith)
+    entire-not ls (read i []) z = let n : _≡_ {A = ℕ} 4 1 = ap formNumber z in absurd (omega arith)
+    entire-not ls (read i (x ∷ l)) z = let n : _≡_ {A = ℕ} 7 1 = ap formNumber z in absurd (omega arith)
 
     labelled-not : (l : Labelled) → labelledForm l ≡ declaration → ⊥
     labelled-not (labelledTokens ls []) z = let n : _≡_ {A = ℕ} 3 1 = ap formNumber (labels-form ls ∙ z) in absurd (omega arith)
-    labelled-not (labelledTokens ls (x ∷ l)) z = whole-not ls (instructionAt (x ∷ l)) (whole-form ls x l ∙ z)
+    labelled-not (labelledTokens ls (x ∷ l)) z = entire-not ls (instructionAt (x ∷ l)) (entire-form ls x l ∙ z)
 
 mark-first : (m : ℕ) (ts : List Token) → opens m ts ≡ true → names-among ts ≡ names-among (behindFirst ts)
 unfolding opens behindFirst names-among pick
@@ -289,81 +230,91 @@ goes-nowhere (gives s g) = gives s g
 
 -- ---- a statement by its form
 
-no-form : (q : Program) (k : ℕ) (xs : List Lexeme) (t : Part) → inOrder q t k xs noForm ≡ refused 7 k
+no-form : (q : Program) (k : ℕ) (xs : List Lexeme) (t : Stage) → inOrder q t k xs noForm ≡ refused 7 k
 no-form q k xs nothing = refl
 no-form q k xs declarations = refl
 no-form q k xs instructions = refl
 
 module _ (q : Program) (k : ℕ) (xs : List Lexeme) (g : Form) {P : Program → Progress → Type 0} {G : Sheet → Type 0} where
   -- the number that the case has is that of the statement's refusal
-  pub on-nothing : (n : ℕ) → noTold n ≡ fieldsOf g → Comes P G (Refused n k) (inOrder q (q .part) k xs g)
-  on-nothing n e = let t = is-nothing g n e in rw (t .0, t .1) (comes-refused 7 k (no-form q k xs (q .part)))
+  pub on-nothing : (n : ℕ) → noTold n ≡ fieldsOf g → Comes P G (Refused n k) (inOrder q (q .stage) k xs g)
+  on-nothing n e = let t = its-form (noTold n) g e in rw (t .0, t .1) (comes-refused 7 k (no-form q k xs (q .stage)))
 
   module _ {r : Step} where
-    pub on-begin : begins ≡ fieldsOf g → Comes P NoSheet r (inOrder q (q .part) k xs beginning) → Comes P G r (inOrder q (q .part) k xs g)
-    on-begin e one = rw (is-begin g e) (no-sheet-yet one)
+    pub on-form : {f : Form} → g ≡ f → Comes P NoSheet r (inOrder q (q .stage) k xs f) → Comes P G r (inOrder q (q .stage) k xs g)
+    on-form e one = rw e (no-sheet-yet one)
 
-    pub on-declaration : declares ≡ fieldsOf g → Comes P NoSheet r (inOrder q (q .part) k xs declaration) → Comes P G r (inOrder q (q .part) k xs g)
-    on-declaration e one = rw (is-declaration g e) (no-sheet-yet one)
+    pub on-end : g ≡ ending → Comes (λ o n. ⊥) G r (inOrder q (q .stage) k xs ending) → Comes P G r (inOrder q (q .stage) k xs g)
+    on-end e one = rw e (goes-nowhere one)
 
-    pub on-end : ends ≡ fieldsOf g → Comes (λ o n. ⊥) G r (inOrder q (q .part) k xs ending) → Comes P G r (inOrder q (q .part) k xs g)
-    on-end e one = rw (is-end g e) (goes-nowhere one)
-
-    pub on-labels : (new : List ℕ) → labelled new ≡ fieldsOf g → Comes P NoSheet r (inOrder q (q .part) k xs (labels new)) → Comes P G r (inOrder q (q .part) k xs g)
-    on-labels new e one = rw (is-labels g new e) (no-sheet-yet one)
-
-    pub on-instruction : (new : List ℕ) (fs : List Field) → instructs new fs ≡ fieldsOf g
-        → ((i : SheetInstruction) → fs ≡ instructionFields i → Comes P NoSheet r (inOrder q (q .part) k xs (instruction new i))) → Comes P G r (inOrder q (q .part) k xs g)
-    on-instruction new fs e one =
-        let i = is-instruction g new fs e in
-        rw (i .same) (no-sheet-yet (one (i .what) (i .fields-same)))
+    -- the fields of an instruction are the first m of an array
+    pub on-instruction : (new own : List ℕ) (m : ℕ) (opens : Bool) → m ≤ length own → IsInstruction g new (fieldsFrom 0 m own) opens
+        → ((i : Instructing) → Instructed (take m own) opens i → Comes P NoSheet r (inOrder q (q .stage) k xs (instruction new i)))
+        → Comes P G r (inOrder q (q .stage) k xs g)
+    on-instruction new own m opens inside i one =
+        on-form (i .same) (one (i .what) (record { its-fields = sym (fields-front m own inside) ∙ i .fields-same; its-opening = i .opening-same }))
 
 -- ---- what the grammar told, by the case of its answer
 
-module _ (n : ℕ) (ks vs own carried : List ℕ) {f : Answer} (g : Form) (e : told (tokensFrom 0 n ks vs) f own carried ≡ fieldsOf g) where
-  pub told-begin : f ≡ Begin → begins ≡ fieldsOf g
-  told-begin z = rw z at e
+module _ (n : ℕ) (ks vs own : List ℕ) {f : Answer} (g : Form) (e : told (tokensFrom 0 n ks vs) f own ≡ fieldsOf g) where
+  pub told-begin : f ≡ Begin → g ≡ beginning
+  told-begin z = its-form begins g (rw z at e)
 
-  pub told-declaration : f ≡ Declaration → declares ≡ fieldsOf g
-  told-declaration z = rw z at e
+  pub told-declaration : f ≡ Declaration → g ≡ declaration
+  told-declaration z = its-form declares g (rw z at e)
 
-  pub told-end : f ≡ End → ends ≡ fieldsOf g
-  told-end z = rw z at e
+  pub told-end : f ≡ End → g ≡ ending
+  told-end z = its-form ends g (rw z at e)
+
+  pub told-finish : f ≡ Finish → g ≡ finish
+  told-finish z = its-form finishes g (rw z at e)
+
+  pub told-finish-else : f ≡ FinishElse → g ≡ finishElse
+  told-finish-else z = its-form goesFurther g (rw z at e)
 
   pub told-nothing : f ≡ Nothing → noTold 7 ≡ fieldsOf g
   told-nothing z = rw z at e
 
-  pub told-unfit : f ≡ Unfit → unfit ≡ fieldsOf g
-  told-unfit z = rw z at e
+  pub never-unfit : {A : Type 0} → f ≡ Unfit → A
+  never-unfit z = absurd (its-form unfit g (rw z at e))
 
-module _ (n : ℕ) (ks vs own carried : List ℕ) {f : Answer} (g : Form) (e : told (tokensFrom 0 n ks vs) f own carried ≡ fieldsOf g) (few : Few n f) where
-  pub told-labels : (c : ℕ) → f ≡ Labels c → labelled (labelsAt c ks vs) ≡ fieldsOf g
-  told-labels c z =
-      let h : 2 * c ≤ n = rw z at few in
-      ap labelled (sym (labels-carried c 0 n ks vs h)) ∙ (rw z at e)
+  module _ (few : Few n f) where
+    pub told-labels : (c : ℕ) → f ≡ Labels c → g ≡ labels (labelsAt c ks vs)
+    told-labels c z =
+        let h : 2 * c ≤ n = rw z at few in
+        its-form (labelled (labelsAt c ks vs)) g (ap labelled (sym (labels-carried c 0 n ks vs h)) ∙ (rw z at e))
 
-  pub told-instruction : (c m : ℕ) → f ≡ Instruction c m → instructs (labelsAt c ks vs) (fieldsFrom 0 m own carried) ≡ fieldsOf g
-  told-instruction c m z =
-      let h : (2 * c ≤ n) × (m ≤ n) = rw z at few in
-      ap (λ ls. instructs ls (fieldsFrom 0 m own carried)) (sym (labels-carried c 0 n ks vs (h .0))) ∙ (rw z at e)
-
-module _ (n : ℕ) {f : Answer} (few : Few n f) (short : n ≤ 256) where
-  pub few-labels-told : (ks vs : List ℕ) (c : ℕ) → f ≡ Labels c → length (labelsAt c ks vs) ≤ 128
-  few-labels-told ks vs c z =
-      let h : 2 * c ≤ n = rw z at few in
-      rw (each-length (labelHere ks vs) 0 c) (omega (arith, h, short))
-
-  module _ (c m : ℕ) (z : f ≡ Instruction c m) where
-    pub few-labels-before : (ks vs : List ℕ) → length (labelsAt c ks vs) ≤ 128
-    few-labels-before ks vs =
+    pub told-instruction : (c m : ℕ) → f ≡ Instruction c m → IsInstruction g (labelsAt c ks vs) (fieldsFrom 0 m own) false
+    told-instruction c m z =
         let h : (2 * c ≤ n) × (m ≤ n) = rw z at few in
-        rw (each-length (labelHere ks vs) 0 c) (omega (arith, h .0, short))
+        its-form (instructs (labelsAt c ks vs) (fieldsFrom 0 m own)) g
+        (ap (λ ls. instructs ls (fieldsFrom 0 m own)) (sym (labels-carried c 0 n ks vs (h .0))) ∙ (rw z at e))
 
-    pub few-fields-told : m ≤ 256
-    few-fields-told = let h : (2 * c ≤ n) × (m ≤ n) = rw z at few in omega (arith, h .1, short)
+    pub told-opening : (c m : ℕ) → f ≡ Opening c m → IsInstruction g (labelsAt c ks vs) (fieldsFrom 0 m own) true
+    told-opening c m z =
+        let h : (2 * c ≤ n) × (m ≤ n) = rw z at few in
+        its-form (opening (labelsAt c ks vs) (fieldsFrom 0 m own)) g
+        (ap (λ ls. opening ls (fieldsFrom 0 m own)) (sym (labels-carried c 0 n ks vs (h .0))) ∙ (rw z at e))
 
-    pub short-fields : (ks vs : List ℕ) → length (fieldsFrom 0 m ks vs) ≤ 256
-    short-fields ks vs = rw (fields-length 0 m ks vs) few-fields-told
+few-labels : (c n : ℕ) (ks vs : List ℕ) → 2 * c ≤ n → n ≤ 256 → length (labelsAt c ks vs) ≤ 128
+few-labels c n ks vs h short = rw (each-length (labelHere ks vs) 0 c) (omega (arith, h, short))
+
+module _ (n : ℕ) {f : Answer} (few : Few n f) where
+  pub own-fields : {room : ℕ} (c m : ℕ) → f ≡ Instruction c m → n ≤ room → m ≤ room
+  own-fields c m z h = let g : (2 * c ≤ n) × (m ≤ n) = rw z at few in omega (arith, g .1, h)
+
+  pub opening-fields : {room : ℕ} (c m : ℕ) → f ≡ Opening c m → n ≤ room → m ≤ room
+  opening-fields c m z h = let g : (2 * c ≤ n) × (m ≤ n) = rw z at few in omega (arith, g .1, h)
+
+  module _ (short : n ≤ 256) (ks vs : List ℕ) where
+    pub few-labels-told : (c : ℕ) → f ≡ Labels c → length (labelsAt c ks vs) ≤ 128
+    few-labels-told c z = few-labels c n ks vs (rw z at few) short
+
+    pub few-labels-before : (c m : ℕ) → f ≡ Instruction c m → length (labelsAt c ks vs) ≤ 128
+    few-labels-before c m z = let h : (2 * c ≤ n) × (m ≤ n) = rw z at few in few-labels c n ks vs (h .0) short
+
+    pub few-labels-opening : (c m : ℕ) → f ≡ Opening c m → length (labelsAt c ks vs) ≤ 128
+    few-labels-opening c m z = let h : (2 * c ≤ n) × (m ≤ n) = rw z at few in few-labels c n ks vs (h .0) short
 
 -- ---- a statement by its tokens
 
@@ -380,7 +331,7 @@ module _ (q : Program) (k n : ℕ) (cells ks vs ws : List ℕ) (short : n ≤ 25
       (ap form (sym same) ∙ e)
 
   pub by-tokens : {P : Program → Progress → Type 0} {G : Sheet → Type 0} {r : Step}
-      → Comes P G r (inOrder q (q .part) k (lexemesFrom 0 n cells ks vs) (form (tokensFrom 0 n ks ws)))
+      → Comes P G r (inOrder q (q .stage) k (lexemesFrom 0 n cells ks vs) (form (tokensFrom 0 n ks ws)))
       → Comes P G r (onLexed q k (lexed (lexemesFrom 0 n cells ks vs)))
   by-tokens one = rw (← same) one
 

@@ -13,13 +13,13 @@ use Rattle.front_end_forms.specs.Answers.{Comes}
 
 -- what follows where a statement stands for an outcome of the program q
 abbrev pub Follows : Progress → ℕ → List ℕ → List ℕ → List ℕ → List ℕ → Step → List ℕ → List ℕ → List ℕ → List ℕ → (Program → Outcome) → Type 0
-Follows p k before-ns before-ls before-ks before-vs r ns ls ks vs outcome =
+Follows p k before-ns before-ls before-gs before-fs r ns ls gs fs outcome =
     (q : Program)
-    → Holds q p before-ns before-ls before-ks before-vs
+    → Holds q p before-ns before-ls before-gs before-fs
     → k < statementNumbers
-    → Comes (λ o n. Holds o n ns ls ks vs) (Held p ks vs) r (outcome q)
+    → Comes (λ o n. Holds o n ns ls gs fs) (Held p fs) r (outcome q)
 
 -- what a statement of so many cells does; one that no end mark fits behind is unfit
-pub record OnStatement (p : Progress) (k count : ℕ) (cells before-ns before-ls before-ks before-vs : List ℕ) (r : Step) (ns ls ks vs : List ℕ) : Type 0 where
-  pub short : count < mostCells → Follows p k before-ns before-ls before-ks before-vs r ns ls ks vs (λ q. statement q k cells)
+pub record OnStatement (p : Progress) (k count : ℕ) (cells before-ns before-ls before-gs before-fs : List ℕ) (r : Step) (ns ls gs fs : List ℕ) : Type 0 where
+  pub short : count < mostCells → Follows p k before-ns before-ls before-gs before-fs r ns ls gs fs (λ q. statement q k cells)
   pub long : mostCells ≤ count → r ≡ Unfit

@@ -14,14 +14,14 @@ use Rattle.front_end_forms.specs.declared.Step.{Step}
 use Rattle.front_end_statement.specs.Answers.{Follows}
 
 -- a statement of n tokens with the form f
-abbrev pub Dispatches : Form → Progress → ℕ → ℕ → List ℕ → List ℕ → List ℕ → List ℕ → List ℕ → List ℕ → List ℕ → List ℕ → List ℕ → List ℕ → Step → List ℕ → List ℕ → List ℕ → List ℕ → Type 0
-Dispatches f p k n cells tokens spelled words own carried before-ns before-ls before-ks before-vs r ns ls ks vs =
+abbrev pub Dispatches : Form → Progress → ℕ → ℕ → List ℕ → List ℕ → List ℕ → List ℕ → List ℕ → List ℕ → List ℕ → List ℕ → List ℕ → Step → List ℕ → List ℕ → List ℕ → List ℕ → Type 0
+Dispatches f p k n cells tokens spelled words own before-ns before-ls before-gs before-fs r ns ls gs fs =
     (g : StatementForm)
-    → told (tokensFrom 0 n tokens words) f own carried ≡ fieldsOf g
+    → told (tokensFrom 0 n tokens words) f own ≡ fieldsOf g
     → (g ≡ declaration → length (namesIn (lexemesFrom 0 n cells tokens spelled)) ≤ 128)
-    → Follows p k before-ns before-ls before-ks before-vs r ns ls ks vs
-    (λ q. inOrder q (q .part) k (lexemesFrom 0 n cells tokens spelled) g)
+    → Follows p k before-ns before-ls before-gs before-fs r ns ls gs fs
+    (λ q. inOrder q (q .stage) k (lexemesFrom 0 n cells tokens spelled) g)
 
 abbrev pub OnTokens : Progress → ℕ → ℕ → List ℕ → List ℕ → List ℕ → List ℕ → List ℕ → List ℕ → List ℕ → Step → List ℕ → List ℕ → List ℕ → List ℕ → Type 0
-OnTokens p k n cells tokens spelled before-ns before-ls before-ks before-vs r ns ls ks vs =
-    Follows p k before-ns before-ls before-ks before-vs r ns ls ks vs (λ q. onLexed q k (lexed (lexemesFrom 0 n cells tokens spelled)))
+OnTokens p k n cells tokens spelled before-ns before-ls before-gs before-fs r ns ls gs fs =
+    Follows p k before-ns before-ls before-gs before-fs r ns ls gs fs (λ q. onLexed q k (lexed (lexemesFrom 0 n cells tokens spelled)))

@@ -4,9 +4,11 @@ use front_end_forms::Progress;
 use front_end_forms::Step;
 use front_end_forms::begin;
 use front_end_forms::declaration;
-use front_end_forms::finish;
 use front_end_forms::instruction;
 use front_end_forms::label;
+use front_end_groups::conclude;
+use front_end_groups::finish;
+use front_end_groups::finish_else;
 use grammar::Form;
 use grammar::form_of;
 use names::look_up;
@@ -15,6 +17,7 @@ use source::Statement;
 use tokens::Lexed;
 use tokens::tokens;
 ghost use Prim.Native.Nat.{_≤_};
+ghost use lib.ListN.{length};
 ghost use Rattle.source.specs.Limits.{mostCells};
 ghost use Rattle.source.specs.Memory.{held};
 ghost use Rattle.grammar.specs.Answers.{Few};
@@ -22,7 +25,7 @@ ghost use Rattle.front_end_forms.specs.Answers.{FewCounts};
 ghost use Rattle.front_end_statement.specs.Answers.{OnStatement};
 ghost use Rattle.front_end_statement.specs.Internal.{Dispatches, OnTokens};
 
-// A statement by its form. `own` and `carried` are the fields of its instruction.
+// A statement by its form. `own` holds the fields of its instruction.
 fn dispatch(
     form: Form,
     p: Progress,
@@ -32,36 +35,30 @@ fn dispatch(
     spelled: &[u32],
     words: &[u32],
     n: usize,
-    own: &[u8],
-    carried: &[u32],
+    own: &[u64],
     names: &mut [u8],
     labels: &mut [u32],
-    kinds: &mut [u8],
-    values: &mut [u32],
+    groups: &mut [u64],
+    fields: &mut [u64],
 ) -> Step
-    requires { ⌜ FewCounts p × Few n form × (n ≤ mostCells) ⌝ }
-    ensures { λ r. ⌜ Dispatches form p k n (now (cells .entry)) (now (tokens .entry)) (now (spelled .entry)) (now (words .entry)) (now (own .entry)) (now (carried .entry)) (now (names .entry)) (now (labels .entry)) (now (kinds .entry)) (now (values .entry)) r (now (names .exit)) (now (labels .exit)) (now (kinds .exit)) (now (values .exit)) ⌝ }
+    requires { ⌜ FewCounts p × Few n form × (n ≤ mostCells) × (n ≤ length (now own)) ⌝ }
+    ensures { λ r. ⌜ Dispatches form p k n (now (cells .entry)) (now (tokens .entry)) (now (spelled .entry)) (now (words .entry)) (now (own .entry)) (now (names .entry)) (now (labels .entry)) (now (groups .entry)) (now (fields .entry)) r (now (names .exit)) (now (labels .exit)) (now (groups .exit)) (now (fields .exit)) ⌝ }
 {
     match form {
         Form::Begin => begin(p, k),
         Form::Declaration => declaration(p, k, cells, tokens, spelled, n, names),
-        Form::End => finish(p, k, labels, kinds, values),
+        Form::End => conclude(p, k, labels, groups, fields),
         Form::Labels(c) => label(p, k, tokens, words, c, labels),
         Form::Instruction(c, m) => {
-            instruction(
-                p,
-                k,
-                tokens,
-                words,
-                c,
-                own,
-                carried,
-                m,
-                labels,
-                kinds,
-                values,
-            )
+            let u = &own[..m];
+            instruction(p, k, tokens, words, c, u, false, labels, groups, fields)
         }
+        Form::Opening(c, m) => {
+            let u = &own[..m];
+            instruction(p, k, tokens, words, c, u, true, labels, groups, fields)
+        }
+        Form::Finish => finish(p, k, labels, groups, fields),
+        Form::FinishElse => finish_else(p, k, labels, groups, fields),
         Form::Nothing => Step::Refused(7, k),
         Form::Unfit => Step::Unfit,
     }
@@ -77,17 +74,16 @@ fn on_tokens(
     n: usize,
     names: &mut [u8],
     labels: &mut [u32],
-    kinds: &mut [u8],
-    values: &mut [u32],
+    groups: &mut [u64],
+    fields: &mut [u64],
 ) -> Step
     requires { ⌜ FewCounts p × (n ≤ mostCells) ⌝ }
-    ensures { λ r. ⌜ OnTokens p k n (now (cells .entry)) (now (tokens .entry)) (now (spelled .entry)) (now (names .entry)) (now (labels .entry)) (now (kinds .entry)) (now (values .entry)) r (now (names .exit)) (now (labels .exit)) (now (kinds .exit)) (now (values .exit)) ⌝ }
+    ensures { λ r. ⌜ OnTokens p k n (now (cells .entry)) (now (tokens .entry)) (now (spelled .entry)) (now (names .entry)) (now (labels .entry)) (now (groups .entry)) (now (fields .entry)) r (now (names .exit)) (now (labels .exit)) (now (groups .exit)) (now (fields .exit)) ⌝ }
 {
     let mut words = [0u32; MOST_CELLS];
     look_up(cells, tokens, spelled, n, names, p.names, &mut words);
-    let mut own = [0u8; MOST_CELLS];
-    let mut carried = [0u32; MOST_CELLS];
-    let form = form_of(tokens, &words, n, &mut own, &mut carried);
+    let mut own = [0u64; MOST_CELLS];
+    let form = form_of(tokens, &words, n, &mut own);
     dispatch(
         form,
         p,
@@ -98,11 +94,10 @@ fn on_tokens(
         &words,
         n,
         &own,
-        &carried,
         names,
         labels,
-        kinds,
-        values,
+        groups,
+        fields,
     )
 }
 
@@ -113,11 +108,11 @@ pub fn statement(
     k: u32,
     names: &mut [u8],
     labels: &mut [u32],
-    kinds: &mut [u8],
-    values: &mut [u32],
+    groups: &mut [u64],
+    fields: &mut [u64],
 ) -> Step
     requires { ⌜ FewCounts p ⌝ }
-    ensures { λ r. ⌜ OnStatement p k (s .length) (held s) (now (names .entry)) (now (labels .entry)) (now (kinds .entry)) (now (values .entry)) r (now (names .exit)) (now (labels .exit)) (now (kinds .exit)) (now (values .exit)) ⌝ }
+    ensures { λ r. ⌜ OnStatement p k (s .length) (held s) (now (names .entry)) (now (labels .entry)) (now (groups .entry)) (now (fields .entry)) r (now (names .exit)) (now (labels .exit)) (now (groups .exit)) (now (fields .exit)) ⌝ }
 {
     let length = s.length;
     let mut found = [0u8; MOST_CELLS];
@@ -132,8 +127,8 @@ pub fn statement(
             n,
             names,
             labels,
-            kinds,
-            values,
+            groups,
+            fields,
         ),
         Lexed::Refused(e) => Step::Refused(e, k),
         Lexed::Unfit => Step::Unfit,

@@ -11,22 +11,20 @@ use lib.ListN.{length, getD}
 use Rattle.base.specs.Choice.{pick}
 use Rattle.base.proofs.Cases.{pick-yes, pick-no, both-yes}
 use Rattle.sheet.specs.declared.Field.{Field}
-use Rattle.sheet.specs.Sheet.{Instruction}
-use Rattle.sheet.specs.Fields.{instructionFields}
 use Rattle.source.specs.declared.Token.{Token}
 use Rattle.source.specs.declared.Token.the-variants.{Name, Number, Quoted, Binary, Compare, Mark}
 use Rattle.source.specs.Limits.{mostCells}
-use Rattle.source.specs.Tokens.{markBegin, markEnd, markInteger, markComma, markColon}
-use Rattle.source.specs.Grammar.{Read, read, none, opens, behindFirst, isMark, isName, isNameList, instructionAt}
-use Rattle.source.specs.Grammar.{Labelled, labelled, further, labelsAt, labelledForm, whole, alone, form, Form}
+use Rattle.source.specs.Tokens.{markBegin, markEnd, markInteger, markElse, markStart, markFinish, markComma, markColon}
+use Rattle.source.specs.Grammar.{Read, read, none, next, opens, behindFirst, isMark, isName, isNameList, instructionAt}
+use Rattle.source.specs.Grammar.{Instruction, simple, ifThen, ifElse, ifStart}
+use Rattle.source.specs.Grammar.{Labelled, labelled, further, labelsAt, labelledForm, entire, only, finishing, form, Form}
 use Rattle.source.specs.Grammar.{beginning, declaration, ending, noForm}
 use Rattle.source.specs.Memory.{tokenCarried, tokenOf, tokensFrom}
 use Rattle.grammar_look.specs.Internal.{left, firstName, firstLabel, isNumber}
 use Rattle.grammar_look.proofs.Places.{left-length, left-more, left-none, left-behind, left-two, left-one}
-use Rattle.grammar_expression.specs.Internal.{written}
-use Rattle.grammar_instruction.specs.Internal.{instructionPass}
-use Rattle.grammar.specs.Answers.{begins, declares, ends, labels as labelsTold, instruction as instructionTold, refusal, unfit, fieldsOf, fit, toldOf}
-use Rattle.grammar.specs.Answers.{labelsIn}
+use Rattle.grammar_instruction.specs.Internal.{Output, whole, opening, outputOf, instructionPass}
+use Rattle.grammar.specs.Answers.{begins, declares, ends, labels as labelsTold, instruction as instructionIs, opening as openingIs, finishes, goesOn, refusal, unfit}
+use Rattle.grammar.specs.Answers.{instructionTold, fieldsOf, labelsIn, fit, toldOf}
 use Rattle.grammar.specs.Internal.{furtherAll, LabelsOf}
 
 pub left-all : (n : ℕ) (ks vs : List ℕ) → left n 0 ks vs ≡ tokensFrom 0 n ks vs
@@ -108,30 +106,52 @@ one-label (Mark m) u ts e = let z : _≡_ {A = ℕ} 0 1 = cc in absurd (omega ar
 -- an instruction behind labels
 
 clause : (ls : List ℕ) (t : Token) (ts : List Token)
-    → labelledForm (labelled ls (t ∷ ts)) ≡ whole ls (instructionAt (t ∷ ts))
+    → labelledForm (labelled ls (t ∷ ts)) ≡ entire ls (instructionAt (t ∷ ts))
 unfolding labelledForm
 clause ls t ts = refl
 
-missing-form : (ls : List ℕ) (fs : List Field) (x : Read Instruction) → none ≡ written instructionFields fs x
-    → fieldsOf (whole ls x) ≡ refusal 7
-unfolding written
+missing-form : (ls : List ℕ) (fs : List Field) (x : Read Instruction) → none ≡ next x (λ i rest. read (outputOf fs i) rest)
+    → fieldsOf (entire ls x) ≡ refusal 7
+unfolding next
 missing-form ls fs none e = refl
 missing-form ls fs (read i rest) e = let z : _≡_ {A = ℕ} 0 1 = cc in absurd (omega arith)
 
-whole-form : (ls : List ℕ) (gs : List Field) (rest : List Token) (x : Read Instruction)
-    → read gs rest ≡ written instructionFields [] x → rest ≡ [] → fieldsOf (whole ls x) ≡ instructionTold ls gs
-unfolding written
-whole-form ls gs rest none e h = let z : _≡_ {A = ℕ} 0 1 = cc in absurd (omega arith)
-whole-form ls gs rest (read i []) e h = let same : instructionFields i ≡ gs = cc in ap (instructionTold ls) same
-whole-form ls gs rest (read i (t ∷ ts)) e h = let z : _≡_ {A = ℕ} 0 1 = cc in absurd (omega arith)
+told-whole : (ls : List ℕ) (gs : List Field) (i : Instruction) → outputOf [] i ≡ whole gs → instructionTold ls i ≡ instructionIs ls gs
+told-whole ls gs (simple u) e = cc
+told-whole ls gs (ifThen c u) e = cc
+told-whole ls gs (ifElse c u w) e = cc
+told-whole ls gs (ifStart c) e = let z : _≡_ {A = ℕ} 0 1 = cc in absurd (omega arith)
 
-longer-form : (ls : List ℕ) (gs : List Field) (rest : List Token) (x : Read Instruction)
-    → read gs rest ≡ written instructionFields [] x → (t : Token) (ts : List Token) → rest ≡ t ∷ ts
-    → fieldsOf (whole ls x) ≡ refusal 7
-unfolding written
-longer-form ls gs rest none e t ts h = refl
-longer-form ls gs rest (read i []) e t ts h = let z : _≡_ {A = ℕ} 0 1 = cc in absurd (omega arith)
-longer-form ls gs rest (read i (u ∷ us)) e t ts h = refl
+told-opening : (ls : List ℕ) (gs : List Field) (i : Instruction) → outputOf [] i ≡ opening gs → instructionTold ls i ≡ openingIs ls gs
+told-opening ls gs (simple u) e = let z : _≡_ {A = ℕ} 0 1 = cc in absurd (omega arith)
+told-opening ls gs (ifThen c u) e = let z : _≡_ {A = ℕ} 0 1 = cc in absurd (omega arith)
+told-opening ls gs (ifElse c u w) e = let z : _≡_ {A = ℕ} 0 1 = cc in absurd (omega arith)
+told-opening ls gs (ifStart c) e = cc
+
+-- an instruction with nothing behind it
+data Entire (o : Output) : Read Instruction → Type 0 where
+  it-is : {i : Instruction} → outputOf [] i ≡ o → Entire o (read i [])
+
+entire-read : (o : Output) (rest : List Token) (x : Read Instruction) → read o rest ≡ next x (λ i l. read (outputOf [] i) l) → rest ≡ []
+    → Entire o x
+unfolding next
+entire-read o rest none e h = let z : _≡_ {A = ℕ} 0 1 = cc in absurd (omega arith)
+entire-read o rest (read i []) e h = let same : outputOf [] i ≡ o = cc in it-is same
+entire-read o rest (read i (t ∷ ts)) e h = let z : _≡_ {A = ℕ} 0 1 = cc in absurd (omega arith)
+
+whole-form : (ls : List ℕ) {gs : List Field} {x : Read Instruction} → Entire (whole gs) x → fieldsOf (entire ls x) ≡ instructionIs ls gs
+whole-form ls {gs} (it-is {i = i} e) = told-whole ls gs i e
+
+opening-form : (ls : List ℕ) {gs : List Field} {x : Read Instruction} → Entire (opening gs) x → fieldsOf (entire ls x) ≡ openingIs ls gs
+opening-form ls {gs} (it-is {i = i} e) = told-opening ls gs i e
+
+longer-form : (ls : List ℕ) (o : Output) (rest : List Token) (x : Read Instruction)
+    → read o rest ≡ next x (λ i l. read (outputOf [] i) l) → (t : Token) (ts : List Token) → rest ≡ t ∷ ts
+    → fieldsOf (entire ls x) ≡ refusal 7
+unfolding next
+longer-form ls o rest none e t ts h = refl
+longer-form ls o rest (read i []) e t ts h = let z : _≡_ {A = ℕ} 0 1 = cc in absurd (omega arith)
+longer-form ls o rest (read i (u ∷ us)) e t ts h = refl
 
 -- the loop over the labels
 module _ (ks vs : List ℕ) where
@@ -231,12 +251,12 @@ module _ (ks vs : List ℕ) where
 
     instruction-form : (2 * c ≡ n → ⊥)
         → labelledForm (labelsAt (tokensFrom 0 n ks vs))
-        ≡ whole (labelsIn c (tokensFrom 0 n ks vs)) (instructionAt (left n (2 * c) ks vs))
+        ≡ entire (labelsIn c (tokensFrom 0 n ks vs)) (instructionAt (left n (2 * c) ks vs))
     instruction-form h =
         labels-form
         ∙ ap (λ l. labelledForm (labelled (labelsIn c (tokensFrom 0 n ks vs)) l)) more
         ∙ one-more _ _
-        ∙ ap (λ l. whole (labelsIn c (tokensFrom 0 n ks vs)) (instructionAt l)) (sym more)
+        ∙ ap (λ l. entire (labelsIn c (tokensFrom 0 n ks vs)) (instructionAt l)) (sym more)
       where
         more : left n (2 * c) ks vs
             ≡ tokenOf (getD ks (2 * c) 0) (getD vs (2 * c) 0) ∷ left n (2 * c + 1) ks vs
@@ -244,45 +264,84 @@ module _ (ks vs : List ℕ) where
 
         one-more : (t : Token) (ts : List Token)
             → labelledForm (labelled (labelsIn c (tokensFrom 0 n ks vs)) (t ∷ ts))
-            ≡ whole (labelsIn c (tokensFrom 0 n ks vs)) (instructionAt (t ∷ ts))
+            ≡ entire (labelsIn c (tokensFrom 0 n ks vs)) (instructionAt (t ∷ ts))
         one-more t ts = clause (labelsIn c (tokensFrom 0 n ks vs)) t ts
 
     pub no-instruction : (fs : List Field) → (2 * c ≡ n → ⊥) → none ≡ instructionPass fs (left n (2 * c) ks vs)
         → refusal 7 ≡ fieldsOf (labelledForm (labelsAt (tokensFrom 0 n ks vs)))
     no-instruction fs h e =
-        sym (ap fieldsOf (instruction-form h) ∙ go (instructionAt (left n (2 * c) ks vs)) e)
-      where
-        go : (x : Read Instruction) → none ≡ written instructionFields fs x
-            → fieldsOf (whole (labelsIn c (tokensFrom 0 n ks vs)) x) ≡ refusal 7
-        go x d = missing-form (labelsIn c (tokensFrom 0 n ks vs)) fs x d
-
-    pub whole-instruction : (gs : List Field) (a : ℕ) → (2 * c ≡ n → ⊥) → a ≡ n
-        → read gs (left n a ks vs) ≡ instructionPass [] (left n (2 * c) ks vs)
-        → instructionTold (labelsIn c (tokensFrom 0 n ks vs)) gs ≡ fieldsOf (labelledForm (labelsAt (tokensFrom 0 n ks vs)))
-    whole-instruction gs a h i e =
         sym
         (ap fieldsOf (instruction-form h)
-        ∙ whole-form (labelsIn c (tokensFrom 0 n ks vs)) gs (left n a ks vs) (instructionAt (left n (2 * c) ks vs)) e
-        (left-none ks vs n a (omega (arith, i))))
+        ∙ missing-form (labelsIn c (tokensFrom 0 n ks vs)) fs (instructionAt (left n (2 * c) ks vs)) e)
 
-    pub more-behind : (gs : List Field) (a : ℕ) → (2 * c ≡ n → ⊥) → (a ≡ n → ⊥) → a ≤ n
-        → read gs (left n a ks vs) ≡ instructionPass [] (left n (2 * c) ks vs)
-        → refusal 7 ≡ fieldsOf (labelledForm (labelsAt (tokensFrom 0 n ks vs)))
-    more-behind gs a h i j e =
-        sym
-        (ap fieldsOf (instruction-form h)
-        ∙ longer-form (labelsIn c (tokensFrom 0 n ks vs)) gs (left n a ks vs) (instructionAt (left n (2 * c) ks vs)) e
-        _ _ (left-more ks vs n a (omega (arith, i, j))))
+    module _ (a : ℕ) (h : 2 * c ≡ n → ⊥) where
+      module _ (i : a ≡ n) where
+        behind-none : (o : Output) → read o (left n a ks vs) ≡ instructionPass [] (left n (2 * c) ks vs)
+            → Entire o (instructionAt (left n (2 * c) ks vs))
+        behind-none o e =
+            entire-read o (left n a ks vs) (instructionAt (left n (2 * c) ks vs)) e (left-none ks vs n a (omega (arith, i)))
+
+        pub whole-instruction : (gs : List Field) → read (whole gs) (left n a ks vs) ≡ instructionPass [] (left n (2 * c) ks vs)
+            → instructionIs (labelsIn c (tokensFrom 0 n ks vs)) gs ≡ fieldsOf (labelledForm (labelsAt (tokensFrom 0 n ks vs)))
+        whole-instruction gs e =
+            sym
+            (ap fieldsOf (instruction-form h) ∙ whole-form (labelsIn c (tokensFrom 0 n ks vs)) (behind-none (whole gs) e))
+
+        pub opening-instruction : (gs : List Field) → read (opening gs) (left n a ks vs) ≡ instructionPass [] (left n (2 * c) ks vs)
+            → openingIs (labelsIn c (tokensFrom 0 n ks vs)) gs ≡ fieldsOf (labelledForm (labelsAt (tokensFrom 0 n ks vs)))
+        opening-instruction gs e =
+            sym
+            (ap fieldsOf (instruction-form h) ∙ opening-form (labelsIn c (tokensFrom 0 n ks vs)) (behind-none (opening gs) e))
+
+      pub more-behind : (o : Output) → (a ≡ n → ⊥) → a ≤ n → read o (left n a ks vs) ≡ instructionPass [] (left n (2 * c) ks vs)
+          → refusal 7 ≡ fieldsOf (labelledForm (labelsAt (tokensFrom 0 n ks vs)))
+      more-behind o i j e =
+          sym
+          (ap fieldsOf (instruction-form h)
+          ∙ longer-form (labelsIn c (tokensFrom 0 n ks vs)) o (left n a ks vs) (instructionAt (left n (2 * c) ks vs)) e
+          _ _ (left-more ks vs n a (omega (arith, i, j))))
+
+-- ---- behind %FINISH
+
+module _ (ks vs : List ℕ) (n : ℕ) where
+  from-one : 1 < n → behindFirst (left n 1 ks vs) ≡ left n 2 ks vs
+  from-one h = sym (left-behind ks vs n 1 h)
+
+  from-two : 2 < n → behindFirst (left n 2 ks vs) ≡ left n 3 ks vs
+  from-two h = sym (left-behind ks vs n 2 h)
+
+  module _ (o : opens markElse (left n 1 ks vs) ≡ true) (h : 1 < n) where
+    module _ (p : opens markStart (left n 2 ks vs) ≡ true) (i : 2 < n) where
+      pub finish-goes-on : n ≡ 3 → goesOn ≡ fieldsOf (finishing (left n 1 ks vs))
+      unfolding finishing pick
+      finish-goes-on e = rw (o, from-one h, p, from-two i, left-none ks vs n 3 (omega (arith, e))) refl
+
+      pub finish-else-more : (n ≡ 3 → ⊥) → refusal 7 ≡ fieldsOf (finishing (left n 1 ks vs))
+      unfolding finishing pick
+      finish-else-more e = rw (o, from-one h, p, from-two i, left-more ks vs n 3 (omega (arith, e, i))) refl
+
+    pub finish-else-other : opens markStart (left n 2 ks vs) ≡ false → refusal 7 ≡ fieldsOf (finishing (left n 1 ks vs))
+    unfolding finishing pick
+    finish-else-other p = rw (o, from-one h, p) refl
+
+  module _ (o : opens markElse (left n 1 ks vs) ≡ false) where
+    pub finish-alone : n ≡ 1 → finishes ≡ fieldsOf (finishing (left n 1 ks vs))
+    unfolding finishing pick
+    finish-alone e = rw (o, left-none ks vs n 1 (omega (arith, e))) refl
+
+    pub finish-more : 0 < n → (n ≡ 1 → ⊥) → refusal 7 ≡ fieldsOf (finishing (left n 1 ks vs))
+    unfolding finishing pick
+    finish-more h e = rw (o, left-more ks vs n 1 (omega (arith, e, h))) refl
 
 -- ---- forms
 
-one-behind : (f : Form) (ts : List Token) → length ts ≡ 1 → alone f (behindFirst ts) ≡ f
+one-behind : (f : Form) (ts : List Token) → length ts ≡ 1 → only f (behindFirst ts) ≡ f
 unfolding behindFirst
 one-behind f [] e = absurd (omega (arith, e))
 one-behind f (t ∷ []) e = refl
 one-behind f (t ∷ u ∷ ts) e = absurd (omega (arith, e))
 
-more-than-one : (f : Form) (m : ℕ) (ts : List Token) → opens m ts ≡ true → (length ts ≡ 1 → ⊥) → alone f (behindFirst ts) ≡ noForm
+more-than-one : (f : Form) (m : ℕ) (ts : List Token) → opens m ts ≡ true → (length ts ≡ 1 → ⊥) → only f (behindFirst ts) ≡ noForm
 unfolding behindFirst opens
 more-than-one f m [] o e = let z : _≡_ {A = ℕ} 0 1 = cc in absurd (omega arith)
 more-than-one f m (t ∷ []) o e = absurd (e refl)
@@ -299,12 +358,18 @@ module _ (ks vs : List ℕ) (n : ℕ) where
       same : (m : ℕ) → m - 0 ≡ m
       same m = omega arith
 
+  behind-all : 0 < n → left n 1 ks vs ≡ behindFirst all
+  unfolding all
+  behind-all inside =
+      let one : 0 + 1 ≡ 1 = omega arith in
+      ap (λ i. left n i ks vs) (sym one) ∙ left-behind ks vs n 0 inside ∙ ap behindFirst (left-all n ks vs)
+
   at-front : (m : ℕ) (b : Bool) → opens m (left n 0 ks vs) ≡ b → opens m all ≡ b
   unfolding all
   at-front m b e = rw (left-all n ks vs) at e
 
   module _ (first : opens markBegin (left n 0 ks vs) ≡ true) where
-    begin-form : form all ≡ alone beginning (behindFirst all)
+    begin-form : form all ≡ only beginning (behindFirst all)
     unfolding form
     begin-form = sym (pick-yes _ _ _ _ (at-front markBegin true first) refl)
 
@@ -321,7 +386,7 @@ module _ (ks vs : List ℕ) (n : ℕ) where
 
   module _ (first : opens markBegin (left n 0 ks vs) ≡ false) where
     module _ (second : opens markEnd (left n 0 ks vs) ≡ true) where
-      end-form : form all ≡ alone ending (behindFirst all)
+      end-form : form all ≡ only ending (behindFirst all)
       unfolding form
       end-form =
           sym (pick-no _ _ _ _ (at-front markBegin false first) (pick-yes _ _ _ _ (at-front markEnd true second) refl))
@@ -347,10 +412,7 @@ module _ (ks vs : List ℕ) (n : ℕ) where
             (pick-no _ _ _ _ (at-front markEnd false second) (pick-yes _ _ _ _ (at-front markInteger true third) refl)))
 
         names-behind : (b : Bool) → b ≡ isNameList (left n 1 ks vs) → isNameList (behindFirst all) ≡ b
-        unfolding all
-        names-behind b e =
-            let one : 0 + 1 ≡ 1 = omega arith in
-            sym (e ∙ ap isNameList (ap (λ i. left n i ks vs) (sym one) ∙ left-behind ks vs n 0 inside ∙ ap behindFirst (left-all n ks vs)))
+        names-behind b e = sym (e ∙ ap isNameList (behind-all inside))
 
         pub integer-names : true ≡ isNameList (left n 1 ks vs) → declares ≡ fieldsOf (form (tokensFrom 0 n ks vs))
         unfolding all pick
@@ -360,31 +422,40 @@ module _ (ks vs : List ℕ) (n : ℕ) where
         unfolding all pick
         integer-more e = sym (ap fieldsOf (integer-form ∙ ap (λ b. pick b declaration noForm) (names-behind false e)))
 
-      pub other-form : opens markInteger (left n 0 ks vs) ≡ false
-          → labelledForm (labelsAt (tokensFrom 0 n ks vs)) ≡ form (tokensFrom 0 n ks vs)
-      unfolding form all
-      other-form third =
-          pick-no _ _ _ _ (at-front markBegin false first)
-          (pick-no _ _ _ _ (at-front markEnd false second) (pick-no _ _ _ _ (at-front markInteger false third) refl))
+      module _ (third : opens markInteger (left n 0 ks vs) ≡ false) where
+        pub finish-form : opens markFinish (left n 0 ks vs) ≡ true → 0 < n → finishing (left n 1 ks vs) ≡ form (tokensFrom 0 n ks vs)
+        unfolding form all
+        finish-form fourth inside =
+            pick-no _ _ _ _ (at-front markBegin false first)
+            (pick-no _ _ _ _ (at-front markEnd false second)
+            (pick-no _ _ _ _ (at-front markInteger false third)
+            (pick-yes _ _ _ _ (at-front markFinish true fourth) (ap finishing (behind-all inside)))))
 
--- ---- any number of tokens and any arrays
+        pub other-form : opens markFinish (left n 0 ks vs) ≡ false
+            → labelledForm (labelsAt (tokensFrom 0 n ks vs)) ≡ form (tokensFrom 0 n ks vs)
+        unfolding form all
+        other-form fourth =
+            pick-no _ _ _ _ (at-front markBegin false first)
+            (pick-no _ _ _ _ (at-front markEnd false second)
+            (pick-no _ _ _ _ (at-front markInteger false third) (pick-no _ _ _ _ (at-front markFinish false fourth) refl)))
 
-pub fits : (n room other : ℕ) → fit n room other ≡ true → (n ≤ mostCells) × (n ≤ room) × (n ≤ other)
-fits n room other e =
-    let one = both-yes (leb n mostCells) (pick (leb n room) (leb n other) false) e in
-    let two = both-yes (leb n room) (leb n other) (one .1) in
-    (leb-true n mostCells (one .0), leb-true n room (two .0), leb-true n other (two .1))
+-- ---- any number of tokens and any array
 
-module _ (n : ℕ) (ks vs : List ℕ) (ts : List Token) where
-  pub fit-told : fit n (length ks) (length vs) ≡ true → fieldsOf (form ts) ≡ toldOf n ks vs ts
+pub fits : (n room : ℕ) → fit n room ≡ true → (n ≤ mostCells) × (n ≤ room)
+fits n room e =
+    let both = both-yes (leb n mostCells) (leb n room) e in
+    (leb-true n mostCells (both .0), leb-true n room (both .1))
+
+module _ (n : ℕ) (fs : List ℕ) (ts : List Token) where
+  pub fit-told : fit n (length fs) ≡ true → fieldsOf (form ts) ≡ toldOf n fs ts
   unfolding toldOf pick
   fit-told e = rw e refl
 
-  pub unfit-told : fit n (length ks) (length vs) ≡ false → unfit ≡ toldOf n ks vs ts
+  pub unfit-told : fit n (length fs) ≡ false → unfit ≡ toldOf n fs ts
   unfolding toldOf pick
   unfit-told e = rw e refl
 
   -- with room for the fields
-  pub form-fit : n ≤ mostCells → n ≤ length ks → n ≤ length vs → toldOf n ks vs ts ≡ fieldsOf (form ts)
+  pub form-fit : n ≤ mostCells → n ≤ length fs → toldOf n fs ts ≡ fieldsOf (form ts)
   unfolding toldOf pick
-  form-fit h g f = rw (le-leb n mostCells h, le-leb n (length ks) g, le-leb n (length vs) f) refl
+  form-fit h g = rw (le-leb n mostCells h, le-leb n (length fs) g) refl

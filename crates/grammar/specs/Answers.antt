@@ -7,15 +7,15 @@ use lib.Dec.{leb}
 use lib.ListN.{length}
 use Rattle.base.specs.Choice.{pick}
 use Rattle.sheet.specs.declared.Field.{Field}
-use Rattle.sheet.specs.Fields.{instructionFields}
 use Rattle.sheet_field.specs.Memory.{fieldsFrom}
 use Rattle.source.specs.declared.Token.{Token}
 use Rattle.source.specs.Limits.{mostCells}
-use Rattle.source.specs.Grammar.{behindFirst, beginning, declaration, ending, noForm, form}
-use Rattle.source.specs.Grammar.{labels as labelsForm, instruction as instructionForm, Form as StatementForm}
+use Rattle.source.specs.Grammar.{Instruction, simple, ifThen, ifElse, ifStart, behindFirst, form}
+use Rattle.source.specs.Grammar.{beginning, declaration, ending, labels as labelsForm, instruction as instructionForm, finish, finishElse, noForm, Form as StatementForm}
+use Rattle.source.specs.Fields.{instructionFields}
 use Rattle.source.specs.Memory.{tokenCarried}
 use Rattle.grammar.specs.declared.Form.{Form}
-use Rattle.grammar.specs.declared.Form.the-variants.{Begin, Declaration, End, Labels, Instruction, Nothing, Unfit}
+use Rattle.grammar.specs.declared.Form.the-variants.{Begin, Declaration, End, Labels, Instruction as InstructionAt, Opening, Finish, FinishElse, Nothing, Unfit}
 
 pub data Told : Type 0 where
   begins : Told
@@ -23,10 +23,21 @@ pub data Told : Type 0 where
   ends : Told
   labels : List ℕ → Told
   instruction : List ℕ → List Field → Told
+  -- `%IF c %THEN %START`
+  opening : List ℕ → List Field → Told
+  finishes : Told
+  -- `%FINISH %ELSE %START`
+  goesOn : Told
   -- document 01's number of the refusal
   refusal : ℕ → Told
-  -- the tokens are more than a statement can have, or than an array has places
+  -- the tokens are more than a statement can have, or than the array has places
   unfit : Told
+
+abbrev pub instructionTold : List ℕ → Instruction → Told
+instructionTold ls (simple u) = instruction ls (instructionFields (simple u))
+instructionTold ls (ifThen c u) = instruction ls (instructionFields (ifThen c u))
+instructionTold ls (ifElse c u w) = instruction ls (instructionFields (ifElse c u w))
+instructionTold ls (ifStart c) = opening ls (instructionFields (ifStart c))
 
 -- the form of a statement, its instruction as fields; 7 "no such form, or out of order"
 abbrev pub fieldsOf : StatementForm → Told
@@ -34,7 +45,9 @@ fieldsOf beginning = begins
 fieldsOf declaration = declares
 fieldsOf ending = ends
 fieldsOf (labelsForm ls) = labels ls
-fieldsOf (instructionForm ls i) = instruction ls (instructionFields i)
+fieldsOf (instructionForm ls i) = instructionTold ls i
+fieldsOf finish = finishes
+fieldsOf finishElse = goesOn
 fieldsOf noForm = refusal 7
 
 -- the numbers of c labels: a colon stands behind each
@@ -43,23 +56,26 @@ labelsIn zero ts = []
 labelsIn (suc c) [] = []
 labelsIn (suc c) (t ∷ ts) = tokenCarried t ∷ labelsIn c (behindFirst ts)
 
--- an answer about the tokens ts, with the two arrays that hold the fields
-abbrev pub told : List Token → Form → List ℕ → List ℕ → Told
-told ts Begin ks vs = begins
-told ts Declaration ks vs = declares
-told ts End ks vs = ends
-told ts (Labels c) ks vs = labels (labelsIn c ts)
-told ts (Instruction c m) ks vs = instruction (labelsIn c ts) (fieldsFrom 0 m ks vs)
-told ts Nothing ks vs = refusal 7
-told ts Unfit ks vs = unfit
+-- an answer about the tokens ts, with the array that holds the fields
+abbrev pub told : List Token → Form → List ℕ → Told
+told ts Begin fs = begins
+told ts Declaration fs = declares
+told ts End fs = ends
+told ts (Labels c) fs = labels (labelsIn c ts)
+told ts (InstructionAt c m) fs = instruction (labelsIn c ts) (fieldsFrom 0 m fs)
+told ts (Opening c m) fs = opening (labelsIn c ts) (fieldsFrom 0 m fs)
+told ts Finish fs = finishes
+told ts FinishElse fs = goesOn
+told ts Nothing fs = refusal 7
+told ts Unfit fs = unfit
 
--- whether n tokens are no more than a statement can have, and than two arrays have places
-abbrev pub fit : ℕ → ℕ → ℕ → Bool
-fit n room other = pick (leb n mostCells) (pick (leb n room) (leb n other) false) false
+-- whether n tokens are no more than a statement can have, and than an array has places
+abbrev pub fit : ℕ → ℕ → Bool
+fit n room = pick (leb n mostCells) (leb n room) false
 
--- the form of n tokens, where two arrays are lent for the fields
-unfoldable pub toldOf : ℕ → List ℕ → List ℕ → List Token → Told
-toldOf n ks vs ts = pick (fit n (length ks) (length vs)) (fieldsOf (form ts)) unfit
+-- the form of n tokens, where an array is lent for the fields
+unfoldable pub toldOf : ℕ → List ℕ → List Token → Told
+toldOf n fs ts = pick (fit n (length fs)) (fieldsOf (form ts)) unfit
 
 -- the labels and the fields of n tokens are no more than these
 abbrev pub Few : ℕ → Form → Type 0
@@ -67,6 +83,9 @@ Few n Begin = Unit {0}
 Few n Declaration = Unit {0}
 Few n End = Unit {0}
 Few n (Labels c) = 2 * c ≤ n
-Few n (Instruction c m) = (2 * c ≤ n) × (m ≤ n)
+Few n (InstructionAt c m) = (2 * c ≤ n) × (m ≤ n)
+Few n (Opening c m) = (2 * c ≤ n) × (m ≤ n)
+Few n Finish = Unit {0}
+Few n FinishElse = Unit {0}
 Few n Nothing = Unit {0}
 Few n Unfit = Unit {0}

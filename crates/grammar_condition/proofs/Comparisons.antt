@@ -1,27 +1,25 @@
--- The condition of an IF, one lemma for each return of the functions that read it.
+-- What an IF asks, one lemma for each return of the functions that read it.
 use Prim.Native.Nat.{ℕ, _+_, _<_}
 use mathlib.Core.Path.{_≡_, refl, ap, ap₂, _∙_}
-use mathlib.Core.Bool.{true, false}
-use mathlib.Core.List.{List, [], _∷_, _++_}
+use mathlib.Core.List.{List, [], _∷_, _++_, append-assoc}
 use native.Mathlib.Omega.{arith}
 use lib.ListN.{length}
-use Rattle.base.specs.Choice.{pick}
 use Rattle.word.specs.declared.Relation.{Relation}
 use Rattle.sheet.specs.declared.Field.{Field}
-use Rattle.sheet.specs.declared.Field.the-variants.{If}
-use Rattle.sheet.specs.Sheet.{Expression}
-use Rattle.sheet.specs.Fields.{expressionFields}
+use Rattle.sheet.specs.declared.Field.the-variants.{Compare as CompareField}
+use Rattle.sheet.specs.Sheet.{Expression, compares}
+use Rattle.sheet.specs.Fields.{expressionFields, conditionFields}
 use Rattle.source.specs.declared.Token.{Token}
 use Rattle.source.specs.declared.Token.the-variants.{Name, Number, Quoted, Binary, Compare, Mark}
-use Rattle.source.specs.Grammar.{Read, read, none, next, opens, behindFirst, expressionIn, expression, relationAt}
+use Rattle.source.specs.Grammar.{Read, read, none, next, behindFirst, expressionIn, expression, relationAt}
 use Rattle.grammar_look.specs.declared.Related.the-variants.{By as RelatedBy, Missing as NoRelation}
 use Rattle.grammar_look.specs.Internal.{left, firstRelation}
 use Rattle.grammar_look.proofs.Places.{left-behind}
 use Rattle.grammar_output.specs.Internal.{insertAt}
 use Rattle.grammar_output.proofs.Shifting.{insert-at-seam}
-use Rattle.grammar_expression.specs.Internal.{written, Enough}
-use Rattle.grammar_expression.proofs.Following.{whole-expression}
-use Rattle.grammar_condition.specs.Internal.{comparedPass, markPass}
+use Rattle.grammar_expression.specs.Internal.{written, Enough, expressionPass}
+use Rattle.grammar_expression.proofs.Following.{then-found, then-missing, whole-expression}
+use Rattle.grammar_condition.specs.Internal.{comparedPass, conditionPass}
 
 -- ---- comparisons
 
@@ -48,7 +46,7 @@ relation-found (Mark m ∷ ts) s e = let z : _≡_ {A = ℕ} 0 1 = cc in absurd 
 module _ (fs : List Field) where
   after-first : Read Expression → Read (List Field)
   after-first x =
-      next x (λ a behind. next (relationAt behind) (λ r others. read (fs ++ If r ∷ expressionFields a) others))
+      next x (λ a behind. next (relationAt behind) (λ r others. read (fs ++ CompareField r ∷ expressionFields a) others))
 
   first-missing : (x : Read Expression) → none ≡ written expressionFields fs x → none ≡ after-first x
   unfolding written next after-first
@@ -66,7 +64,7 @@ module _ (fs : List Field) where
 
   related : (x : Read Expression) (s : Relation) (p : ℕ) (gs hs : List Field) (rest : List Token)
       → read gs rest ≡ written expressionFields fs x → firstRelation rest ≡ RelatedBy s → length fs ≡ p
-      → hs ≡ insertAt p (If s) gs → read hs (behindFirst rest) ≡ after-first x
+      → hs ≡ insertAt p (CompareField s) gs → read hs (behindFirst rest) ≡ after-first x
   unfolding written next after-first
   related none s p gs hs rest e f g h = let z : _≡_ {A = ℕ} 0 1 = cc in absurd (omega arith)
   related (read a l) s p gs hs rest e f g h =
@@ -74,7 +72,7 @@ module _ (fs : List Field) where
       let all : gs ≡ fs ++ expressionFields a = cc in
       let test : firstRelation l ≡ RelatedBy s = rw same at f in
       rw (relation-found l s test)
-      (ap₂ (λ x y. read x (behindFirst y)) (h ∙ ap (insertAt p (If s)) all ∙ insert-at-seam fs (expressionFields a) p (If s) g) same)
+      (ap₂ (λ x y. read x (behindFirst y)) (h ∙ ap (insertAt p (CompareField s)) all ∙ insert-at-seam fs (expressionFields a) p (CompareField s) g) same)
 
   module _ (ks vs : List ℕ) (n at : ℕ) where
     pub compared-missing : Enough n at (λ k. none ≡ written expressionFields fs (expressionIn k (left n at ks vs)))
@@ -91,7 +89,7 @@ module _ (fs : List Field) where
 
     pub compared-found : (s : Relation) (p a : ℕ) (gs hs : List Field)
         → Enough n at (λ k. read gs (left n a ks vs) ≡ written expressionFields fs (expressionIn k (left n at ks vs)))
-        → firstRelation (left n a ks vs) ≡ RelatedBy s → a < n → length fs ≡ p → hs ≡ insertAt p (If s) gs
+        → firstRelation (left n a ks vs) ≡ RelatedBy s → a < n → length fs ≡ p → hs ≡ insertAt p (CompareField s) gs
         → read hs (left n (a + 1) ks vs) ≡ comparedPass fs (left n at ks vs)
     unfolding after-first
     compared-found s p a gs hs h f i g e =
@@ -99,14 +97,42 @@ module _ (fs : List Field) where
         ∙ related (expression (left n at ks vs)) s p gs hs (left n a ks vs)
         (whole-expression ks vs n at fs (read gs (left n a ks vs)) h) f g e
 
--- ---- marks
+-- ---- the second expression
 
-module _ (m : ℕ) (f : Field) (ks vs : List ℕ) (n at : ℕ) (fs : List Field) where
-  pub mark-found : (gs : List Field) → opens m (left n at ks vs) ≡ true → at < n → gs ≡ fs ++ (f ∷ [])
-      → read gs (left n (at + 1) ks vs) ≡ markPass m f fs (left n at ks vs)
-  unfolding pick
-  mark-found gs o h g = rw (o, g, left-behind ks vs n at h) refl
+module _ (fs : List Field) where
+  second-fields : (r : Relation) (a : Expression) (x : Read Expression)
+      → written expressionFields (fs ++ CompareField r ∷ expressionFields a) x
+      ≡ written conditionFields fs (next x (λ b rest. read (compares r a b) rest))
+  unfolding written next
+  second-fields r a none = refl
+  second-fields r a (read b rest) =
+      ap (λ l. read l rest) (append-assoc fs (CompareField r ∷ expressionFields a) (expressionFields b))
 
-  pub mark-missing : opens m (left n at ks vs) ≡ false → none ≡ markPass m f fs (left n at ks vs)
-  unfolding pick
-  mark-missing o = rw o refl
+  related-fields : (a : Expression) (y : Read Relation)
+      → next (next y (λ r others. read (fs ++ CompareField r ∷ expressionFields a) others)) (λ g l. expressionPass g l)
+      ≡ written conditionFields fs (next y (λ r others. next (expression others) (λ b rest. read (compares r a b) rest)))
+  unfolding written next
+  related-fields a none = refl
+  related-fields a (read r others) = second-fields r a (expression others)
+
+  first-fields : (x : Read Expression)
+      → next
+      (next x (λ a behind. next (relationAt behind) (λ r others. read (fs ++ CompareField r ∷ expressionFields a) others)))
+      (λ g l. expressionPass g l)
+      ≡ written conditionFields fs
+      (next x (λ a behind. next (relationAt behind) (λ r others. next (expression others) (λ b rest. read (compares r a b) rest))))
+  unfolding written next
+  first-fields none = refl
+  first-fields (read a behind) = related-fields a (relationAt behind)
+
+  module _ (ks vs : List ℕ) (n at : ℕ) where
+    pub condition-missing : none ≡ comparedPass fs (left n at ks vs) → none ≡ conditionPass fs (left n at ks vs)
+    condition-missing e =
+        then-missing (comparedPass fs (left n at ks vs)) (λ g l. expressionPass g l) e ∙ first-fields (expression (left n at ks vs))
+
+    pub condition-read : (a : ℕ) (gs : List Field) (r : Read (List Field)) → read gs (left n a ks vs) ≡ comparedPass fs (left n at ks vs)
+        → Enough n a (λ k. r ≡ written expressionFields gs (expressionIn k (left n a ks vs))) → r ≡ conditionPass fs (left n at ks vs)
+    condition-read a gs r e h =
+        then-found (comparedPass fs (left n at ks vs)) (λ g l. expressionPass g l) gs (left n a ks vs) r e
+        (whole-expression ks vs n a gs r h)
+        ∙ first-fields (expression (left n at ks vs))

@@ -70,74 +70,73 @@ module _ (inner : List Token → Read Expression) (p : Places) (fs : List Field)
   link-missing q j hs (read a others) e = let z : _≡_ {A = ℕ} 0 1 = cc in absurd (omega arith)
 
 -- what is to come comes to `all`
-pub record Going (n : ℕ) (ks vs : List ℕ) (k : ℕ) (all : Read (List Field)) (a b : ℕ) (p : Places) (fks fvs : List ℕ) : Type 0 where
+pub record Going (n : ℕ) (ks vs : List ℕ) (k : ℕ) (all : Read (List Field)) (a b : ℕ) (p : Places) (ws : List ℕ) : Type 0 where
   pub fuel : ℕ
   pub enough : n < a + fuel
-  pub same : linksPass (expressionIn k) fuel p (fieldsFrom 0 b fks fvs) (left n a ks vs) ≡ all
+  pub same : linksPass (expressionIn k) fuel p (fieldsFrom 0 b ws) (left n a ks vs) ≡ all
 
-module _ (n : ℕ) (ks vs : List ℕ) (k : ℕ) (all : Read (List Field)) (a b : ℕ) (p : Places) (fks fvs : List ℕ) where
-  pub going-stop : a ≤ n → firstLink (left n a ks vs) ≡ NoLink → Going n ks vs k all a b p fks fvs
-      → read (fieldsFrom 0 b fks fvs) (left n a ks vs) ≡ all
+module _ (n : ℕ) (ks vs : List ℕ) (k : ℕ) (all : Read (List Field)) (a b : ℕ) (p : Places) (ws : List ℕ) where
+  pub going-stop : a ≤ n → firstLink (left n a ks vs) ≡ NoLink → Going n ks vs k all a b p ws
+      → read (fieldsFrom 0 b ws) (left n a ks vs) ≡ all
   going-stop i e g = go (g .fuel) (g .enough) (g .same)
     where
-      go : (j : ℕ) → n < a + j → linksPass (expressionIn k) j p (fieldsFrom 0 b fks fvs) (left n a ks vs) ≡ all
-          → read (fieldsFrom 0 b fks fvs) (left n a ks vs) ≡ all
+      go : (j : ℕ) → n < a + j → linksPass (expressionIn k) j p (fieldsFrom 0 b ws) (left n a ks vs) ≡ all
+          → read (fieldsFrom 0 b ws) (left n a ks vs) ≡ all
       go zero h s = absurd (omega (arith, h, i))
-      go (suc j) h s = links-stop (expressionIn k) p (fieldsFrom 0 b fks fvs) j (left n a ks vs) e ∙ s
+      go (suc j) h s = links-stop (expressionIn k) p (fieldsFrom 0 b ws) j (left n a ks vs) e ∙ s
 
   pub going-none : (o : Operator) → a < n → firstLink (left n a ks vs) ≡ LinkBy o
-      → none ≡ written expressionFields (insertAt (placeFor p o) (BinaryField o) (fieldsFrom 0 b fks fvs))
+      → none ≡ written expressionFields (insertAt (placeFor p o) (BinaryField o) (fieldsFrom 0 b ws))
       (operandBy (expressionIn k) (left n (a + 1) ks vs))
-      → Going n ks vs k all a b p fks fvs → none ≡ all
+      → Going n ks vs k all a b p ws → none ≡ all
   going-none o i e m g = go (g .fuel) (g .enough) (g .same)
     where
-      go : (j : ℕ) → n < a + j → linksPass (expressionIn k) j p (fieldsFrom 0 b fks fvs) (left n a ks vs) ≡ all → none ≡ all
+      go : (j : ℕ) → n < a + j → linksPass (expressionIn k) j p (fieldsFrom 0 b ws) (left n a ks vs) ≡ all → none ≡ all
       go zero h s = absurd (omega (arith, h, i))
       go (suc j) h s =
-          link-missing (expressionIn k) p (fieldsFrom 0 b fks fvs) (placesAfter p o (length (fieldsFrom 0 b fks fvs) + 1)) j
-          (insertAt (placeFor p o) (BinaryField o) (fieldsFrom 0 b fks fvs))
+          link-missing (expressionIn k) p (fieldsFrom 0 b ws) (placesAfter p o (length (fieldsFrom 0 b ws) + 1)) j
+          (insertAt (placeFor p o) (BinaryField o) (fieldsFrom 0 b ws))
           (operandBy (expressionIn k) (behindFirst (left n a ks vs)))
           (rw (left-behind ks vs n a i) at m)
-          ∙ sym (links-more (expressionIn k) p (fieldsFrom 0 b fks fvs) j o (left n a ks vs) e)
+          ∙ sym (links-more (expressionIn k) p (fieldsFrom 0 b ws) j o (left n a ks vs) e)
           ∙ s
 
-  pub going-turn : (o : Operator) (c d : ℕ) (fks₁ fvs₁ : List ℕ) → a < n → a + 2 ≤ c → firstLink (left n a ks vs) ≡ LinkBy o
-      → read (fieldsFrom 0 d fks₁ fvs₁) (left n c ks vs)
-      ≡ written expressionFields (insertAt (placeFor p o) (BinaryField o) (fieldsFrom 0 b fks fvs))
+  pub going-turn : (o : Operator) (c d : ℕ) (ws₁ : List ℕ) → a < n → a + 2 ≤ c → firstLink (left n a ks vs) ≡ LinkBy o
+      → read (fieldsFrom 0 d ws₁) (left n c ks vs)
+      ≡ written expressionFields (insertAt (placeFor p o) (BinaryField o) (fieldsFrom 0 b ws))
       (operandBy (expressionIn k) (left n (a + 1) ks vs))
-      → Going n ks vs k all a b p fks fvs → Going n ks vs k all c d (placesAfter p o (b + 1)) fks₁ fvs₁
-  going-turn o c d fks₁ fvs₁ i on e m g = go (g .fuel) (g .enough) (g .same)
+      → Going n ks vs k all a b p ws → Going n ks vs k all c d (placesAfter p o (b + 1)) ws₁
+  going-turn o c d ws₁ i on e m g = go (g .fuel) (g .enough) (g .same)
     where
-      go : (j : ℕ) → n < a + j → linksPass (expressionIn k) j p (fieldsFrom 0 b fks fvs) (left n a ks vs) ≡ all
-          → Going n ks vs k all c d (placesAfter p o (b + 1)) fks₁ fvs₁
+      go : (j : ℕ) → n < a + j → linksPass (expressionIn k) j p (fieldsFrom 0 b ws) (left n a ks vs) ≡ all
+          → Going n ks vs k all c d (placesAfter p o (b + 1)) ws₁
       go zero h s = absurd (omega (arith, h, i))
       go (suc j) h s =
           record {
             fuel = j;
             enough = omega (arith, h, on);
             same =
-                ap (λ q. linksPass (expressionIn k) j (placesAfter p o (q + 1)) (fieldsFrom 0 d fks₁ fvs₁) (left n c ks vs))
-                (sym (fields-length 0 b fks fvs))
-                ∙ sym (link-found (expressionIn k) p (fieldsFrom 0 b fks fvs)
-                (placesAfter p o (length (fieldsFrom 0 b fks fvs) + 1)) j
-                (insertAt (placeFor p o) (BinaryField o) (fieldsFrom 0 b fks fvs)) (fieldsFrom 0 d fks₁ fvs₁) (left n c ks vs)
+                ap (λ q. linksPass (expressionIn k) j (placesAfter p o (q + 1)) (fieldsFrom 0 d ws₁) (left n c ks vs))
+                (sym (fields-length 0 b ws))
+                ∙ sym (link-found (expressionIn k) p (fieldsFrom 0 b ws)
+                (placesAfter p o (length (fieldsFrom 0 b ws) + 1)) j
+                (insertAt (placeFor p o) (BinaryField o) (fieldsFrom 0 b ws)) (fieldsFrom 0 d ws₁) (left n c ks vs)
                 (operandBy (expressionIn k) (behindFirst (left n a ks vs)))
                 (rw (left-behind ks vs n a i) at m))
-                ∙ sym (links-more (expressionIn k) p (fieldsFrom 0 b fks fvs) j o (left n a ks vs) e)
+                ∙ sym (links-more (expressionIn k) p (fieldsFrom 0 b ws) j o (left n a ks vs) e)
                 ∙ s;
           }
 
 -- the loop over the links
-pub record Linked (n at out : ℕ) (p₀ : Places) (ks vs fks₀ fvs₀ fks fvs : List ℕ) (a b : ℕ) (p : Places) : Type 0 where
+pub record Linked (n at out : ℕ) (p₀ : Places) (ks vs ws₀ ws : List ℕ) (a b : ℕ) (p : Places) : Type 0 where
   pub on : at ≤ a
   pub inside : a ≤ n
   pub wider : out ≤ b
   pub few : b + at ≤ a + out
   pub within : WithinPlaces b p
-  pub kinds-long : length fks ≡ length fks₀
-  pub values-long : length fvs ≡ length fvs₀
+  pub long : length ws ≡ length ws₀
   pub to-come : (k j : ℕ) → n ≤ at + k → n < at + j
-      → Going n ks vs k (linksPass (expressionIn k) j p₀ (fieldsFrom 0 out fks₀ fvs₀) (left n at ks vs)) a b p fks fvs
+      → Going n ks vs k (linksPass (expressionIn k) j p₀ (fieldsFrom 0 out ws₀) (left n at ks vs)) a b p ws
 
 pub place-within : (b : ℕ) (p : Places) (o : Operator) → WithinPlaces b p → placeFor p o ≤ b
 place-within b p o w =
@@ -158,30 +157,30 @@ after-within b d p o w h =
 
 -- ---- a whole expression
 
-module _ (n at out : ℕ) (ks vs fks fvs : List ℕ) (s : Opened) (fks₁ fvs₁ : List ℕ)
-    (opened : OpenedAs n at out ks vs fks fvs s fks₁ fvs₁) where
-  pub expression-read : (a b : ℕ) (p : Places) (fks₂ fvs₂ : List ℕ) (r : Read (List Field))
-      → ((k : ℕ) → n ≤ s .at + 1 + k → read (fieldsFrom 0 b fks₂ fvs₂) (left n a ks vs)
-      ≡ written expressionFields (fieldsFrom 0 (s .out) fks₁ fvs₁) (operandBy (expressionIn k) (left n (s .at) ks vs)))
+module _ (n at out : ℕ) (ks vs ws : List ℕ) (s : Opened) (ws₁ : List ℕ)
+    (opened : OpenedAs n at out ks vs ws s ws₁) where
+  pub expression-read : (a b : ℕ) (p : Places) (ws₂ : List ℕ) (r : Read (List Field))
+      → ((k : ℕ) → n ≤ s .at + 1 + k → read (fieldsFrom 0 b ws₂) (left n a ks vs)
+      ≡ written expressionFields (fieldsFrom 0 (s .out) ws₁) (operandBy (expressionIn k) (left n (s .at) ks vs)))
       → s .at + 1 ≤ a → a ≤ n → p ≡ record { low = out; middle = s .upper; high = s .upper }
-      → LinksFrom n a b p ks vs fks₂ fvs₂ r
-      → (f : ℕ) → n ≤ at + f → r ≡ written expressionFields (fieldsFrom 0 out fks fvs) (expressionIn f (left n at ks vs))
+      → LinksFrom n a b p ks vs ws₂ r
+      → (f : ℕ) → n ≤ at + f → r ≡ written expressionFields (fieldsFrom 0 out ws) (expressionIn f (left n at ks vs))
   unfolding expressionIn
-  expression-read a b p fks₂ fvs₂ r operand on inside e links zero h = absurd (omega (arith, h, on, inside, opened .on))
-  expression-read a b p fks₂ fvs₂ r operand on inside e links (suc k) h =
+  expression-read a b p ws₂ r operand on inside e links zero h = absurd (omega (arith, h, on, inside, opened .on))
+  expression-read a b p ws₂ r operand on inside e links (suc k) h =
       links k (suc k) (omega (arith, h, on, opened .on)) (omega (arith, h, on, opened .on))
-      ∙ chain-agrees (expressionIn k) (suc k) (opened .lead) (fieldsFrom 0 out fks fvs) (fieldsFrom 0 b fks₂ fvs₂)
+      ∙ chain-agrees (expressionIn k) (suc k) (opened .lead) (fieldsFrom 0 out ws) (fieldsFrom 0 b ws₂)
       (left n (s .at) ks vs) (left n a ks vs) p
       (rw (opened .fields) at (operand k (omega (arith, h, opened .on))))
-      (e ∙ rw (fields-length 0 out fks fvs, opened .upper) refl)
-      ∙ ap (λ t. written expressionFields (fieldsFrom 0 out fks fvs) (chainBy (expressionIn k) (suc k) t)) (sym (opened .tokens))
+      (e ∙ rw (fields-length 0 out ws, opened .upper) refl)
+      ∙ ap (λ t. written expressionFields (fieldsFrom 0 out ws) (chainBy (expressionIn k) (suc k) t)) (sym (opened .tokens))
 
   pub expression-none : ((k : ℕ) → n ≤ s .at + 1 + k → none
-      ≡ written expressionFields (fieldsFrom 0 (s .out) fks₁ fvs₁) (operandBy (expressionIn k) (left n (s .at) ks vs)))
-      → (f : ℕ) → n ≤ at + f → none ≡ written expressionFields (fieldsFrom 0 out fks fvs) (expressionIn f (left n at ks vs))
+      ≡ written expressionFields (fieldsFrom 0 (s .out) ws₁) (operandBy (expressionIn k) (left n (s .at) ks vs)))
+      → (f : ℕ) → n ≤ at + f → none ≡ written expressionFields (fieldsFrom 0 out ws) (expressionIn f (left n at ks vs))
   unfolding expressionIn written
   expression-none operand zero h = refl
   expression-none operand (suc k) h =
-      chain-none (expressionIn k) (suc k) (opened .lead) (fieldsFrom 0 out fks fvs) (left n (s .at) ks vs)
+      chain-none (expressionIn k) (suc k) (opened .lead) (fieldsFrom 0 out ws) (left n (s .at) ks vs)
       (rw (opened .fields) at (operand k (omega (arith, h, opened .on))))
-      ∙ ap (λ t. written expressionFields (fieldsFrom 0 out fks fvs) (chainBy (expressionIn k) (suc k) t)) (sym (opened .tokens))
+      ∙ ap (λ t. written expressionFields (fieldsFrom 0 out ws) (chainBy (expressionIn k) (suc k) t)) (sym (opened .tokens))

@@ -12,8 +12,8 @@ use Rattle.grammar_look.specs.Internal.{left}
 use Rattle.grammar_look.proofs.Places.{left-length}
 use Rattle.grammar_expression.specs.Internal.{written, Enough, expressionPass}
 
-module _ {A : Type 0} (p : Read A) (k : A → List Token → Read (List Field)) where
-  pub then-found : (a : A) (rest : List Token) (r : Read (List Field)) → read a rest ≡ p → r ≡ k a rest → r ≡ next p k
+module _ {A B : Type 0} (p : Read A) (k : A → List Token → Read B) where
+  pub then-found : (a : A) (rest : List Token) (r : Read B) → read a rest ≡ p → r ≡ k a rest → r ≡ next p k
   unfolding next
   then-found a rest r e f = rw (← e) f
 

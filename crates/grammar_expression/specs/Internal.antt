@@ -19,9 +19,9 @@ use Rattle.grammar_output.specs.declared.Places.{Places}
 use Rattle.grammar_output.specs.Internal.{insertAt, placeFor, placesAfter}
 
 -- all fields up to now and the tokens that are left
-abbrev pub stepped : ℕ → List ℕ → List ℕ → Step → List ℕ → List ℕ → Read (List Field)
-stepped n ks vs (At a o) fks fvs = read (fieldsFrom 0 o fks fvs) (left n a ks vs)
-stepped n ks vs Missing fks fvs = none
+abbrev pub stepped : ℕ → List ℕ → List ℕ → Step → List ℕ → Read (List Field)
+stepped n ks vs (At a o) fs = read (fieldsFrom 0 o fs) (left n a ks vs)
+stepped n ks vs Missing fs = none
 
 -- the fields of what is read, behind others
 unfoldable pub written : {A : Type 0} → (A → List Field) → List Field → Read A → Read (List Field)
@@ -56,9 +56,9 @@ pub record WithinPlaces (out : ℕ) (p : Places) : Type 0 where
   pub high-within : p .high ≤ out
 
 -- r is what the links from place `at` on come to
-abbrev pub LinksFrom : ℕ → ℕ → ℕ → Places → List ℕ → List ℕ → List ℕ → List ℕ → Read (List Field) → Type 0
-LinksFrom n at out p ks vs fks fvs r =
-    (k j : ℕ) → n ≤ at + k → n < at + j → r ≡ linksPass (expressionIn k) j p (fieldsFrom 0 out fks fvs) (left n at ks vs)
+abbrev pub LinksFrom : ℕ → ℕ → ℕ → Places → List ℕ → List ℕ → List ℕ → Read (List Field) → Type 0
+LinksFrom n at out p ks vs fs r =
+    (k j : ℕ) → n ≤ at + k → n < at + j → r ≡ linksPass (expressionIn k) j p (fieldsFrom 0 out fs) (left n at ks vs)
 
 -- a whole expression behind others
 abbrev pub expressionPass : List Field → List Token → Read (List Field)

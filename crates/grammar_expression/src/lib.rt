@@ -30,23 +30,22 @@ fn operand(
     values: &[u32],
     n: usize,
     at: usize,
-    fields: &mut [u8],
-    carried: &mut [u32],
+    fields: &mut [u64],
     out: usize,
 ) -> Step
-    requires { ⌜ Ready n at out (now fields) (now carried) ⌝ }
+    requires { ⌜ Ready n at out (now fields) ⌝ }
     ensures moved { λ r. ⌜ Moved 1 n at out r ⌝ }
     ensures read { λ r. ⌜ Enough n (at + 1)
-        (λ k. stepped n (now (kinds .entry)) (now (values .entry)) r (now (fields .exit)) (now (carried .exit))
-        ≡ written expressionFields (fieldsFrom 0 out (now (fields .entry)) (now (carried .entry)))
+        (λ k. stepped n (now (kinds .entry)) (now (values .entry)) r (now (fields .exit))
+        ≡ written expressionFields (fieldsFrom 0 out (now (fields .entry)))
         (operandBy (expressionIn k) (left n at (now (kinds .entry)) (now (values .entry))))) ⌝ }
 {
     match operand_at(kinds, values, n, at) {
         Operand::Plain(f) => {
-            put(fields, carried, out, f);
+            put(fields, out, f);
             Step::At(at + 1, out + 1)
         }
-        Operand::Open => { bracketed(kinds, values, n, at + 1, fields, carried, out) }
+        Operand::Open => { bracketed(kinds, values, n, at + 1, fields, out) }
         Operand::Missing => Step::Missing,
     }
 }
@@ -57,18 +56,17 @@ pub fn bracketed(
     values: &[u32],
     n: usize,
     at: usize,
-    fields: &mut [u8],
-    carried: &mut [u32],
+    fields: &mut [u64],
     out: usize,
 ) -> Step
-    requires { ⌜ Ready n at out (now fields) (now carried) ⌝ }
+    requires { ⌜ Ready n at out (now fields) ⌝ }
     ensures moved { λ r. ⌜ Moved 2 n at out r ⌝ }
     ensures read { λ r. ⌜ Enough n at
-        (λ k. stepped n (now (kinds .entry)) (now (values .entry)) r (now (fields .exit)) (now (carried .exit))
-        ≡ written expressionFields (fieldsFrom 0 out (now (fields .entry)) (now (carried .entry)))
+        (λ k. stepped n (now (kinds .entry)) (now (values .entry)) r (now (fields .exit))
+        ≡ written expressionFields (fieldsFrom 0 out (now (fields .entry)))
         (bracketedBy (expressionIn k) (left n at (now (kinds .entry)) (now (values .entry))))) ⌝ }
 {
-    let inner = expression(kinds, values, n, at, fields, carried, out);
+    let inner = expression(kinds, values, n, at, fields, out);
     let Step::At(a, b) = inner else {
         return Step::Missing;
     };
@@ -84,16 +82,14 @@ fn links(
     values: &[u32],
     n: usize,
     at: usize,
-    fields: &mut [u8],
-    carried: &mut [u32],
+    fields: &mut [u64],
     out: usize,
     places: Places,
 ) -> Step
-    requires { ⌜ Ready n at out (now fields) (now carried) × WithinPlaces out places ⌝ }
+    requires { ⌜ Ready n at out (now fields) × WithinPlaces out places ⌝ }
     ensures moved { λ r. ⌜ Moved 0 n at out r ⌝ }
     ensures read { λ r. ⌜ LinksFrom n at out places (now (kinds .entry)) (now (values .entry)) (now (fields .entry))
-        (now (carried .entry))
-        (stepped n (now (kinds .entry)) (now (values .entry)) r (now (fields .exit)) (now (carried .exit))) ⌝ }
+        (stepped n (now (kinds .entry)) (now (values .entry)) r (now (fields .exit))) ⌝ }
 {
     let mut a = at;
     let mut b = out;
@@ -102,8 +98,8 @@ fn links(
         let Link::By(o) = link_at(kinds, values, n, a) else {
             return Step::At(a, b);
         };
-        insert(fields, carried, place_for(p, o), b, Field::Binary(o));
-        let right = operand(kinds, values, n, a + 1, fields, carried, b + 1);
+        insert(fields, place_for(p, o), b, Field::Binary(o));
+        let right = operand(kinds, values, n, a + 1, fields, b + 1);
         let Step::At(c, d) = right else {
             return Step::Missing;
         };
@@ -119,19 +115,18 @@ pub fn expression(
     values: &[u32],
     n: usize,
     at: usize,
-    fields: &mut [u8],
-    carried: &mut [u32],
+    fields: &mut [u64],
     out: usize,
 ) -> Step
-    requires { ⌜ Ready n at out (now fields) (now carried) ⌝ }
+    requires { ⌜ Ready n at out (now fields) ⌝ }
     ensures moved { λ r. ⌜ Moved 1 n at out r ⌝ }
     ensures read { λ r. ⌜ Enough n at
-        (λ k. stepped n (now (kinds .entry)) (now (values .entry)) r (now (fields .exit)) (now (carried .exit))
-        ≡ written expressionFields (fieldsFrom 0 out (now (fields .entry)) (now (carried .entry)))
+        (λ k. stepped n (now (kinds .entry)) (now (values .entry)) r (now (fields .exit))
+        ≡ written expressionFields (fieldsFrom 0 out (now (fields .entry)))
         (expressionIn k (left n at (now (kinds .entry)) (now (values .entry))))) ⌝ }
 {
-    let s = open(kinds, values, n, at, fields, carried, out);
-    let first = operand(kinds, values, n, s.at, fields, carried, s.out);
+    let s = open(kinds, values, n, at, fields, out);
+    let first = operand(kinds, values, n, s.at, fields, s.out);
     let Step::At(a, b) = first else {
         return Step::Missing;
     };
@@ -140,5 +135,5 @@ pub fn expression(
         middle: s.upper,
         high: s.upper,
     };
-    links(kinds, values, n, a, fields, carried, b, p)
+    links(kinds, values, n, a, fields, b, p)
 }

@@ -21,16 +21,16 @@ upperPlace minus out = out + 1
 upperPlace invert out = out
 
 -- behind a sign for which the field f is written
-pub record SignedAs (at out upper : ℕ) (f : Field) (fks fvs : List ℕ) (r : Opened) (fks₁ fvs₁ : List ℕ) : Type 0 where
-  pub fields : fieldsFrom 0 (r .out) fks₁ fvs₁ ≡ fieldsFrom 0 out fks fvs ++ (f ∷ [])
+pub record SignedAs (at out upper : ℕ) (f : Field) (fs : List ℕ) (r : Opened) (fs₁ : List ℕ) : Type 0 where
+  pub fields : fieldsFrom 0 (r .out) fs₁ ≡ fieldsFrom 0 out fs ++ (f ∷ [])
   pub token-behind : r .at ≡ at + 1
   pub upper-given : r .upper ≡ upper
   pub field-behind : r .out ≡ out + 1
 
-pub record OpenedAs (n at out : ℕ) (ks vs fks fvs : List ℕ) (r : Opened) (fks₁ fvs₁ : List ℕ) : Type 0 where
+pub record OpenedAs (n at out : ℕ) (ks vs fs : List ℕ) (r : Opened) (fs₁ : List ℕ) : Type 0 where
   pub lead : Leading
   pub tokens : startOf (left n at ks vs) ≡ start lead (left n (r .at) ks vs)
-  pub fields : fieldsFrom 0 (r .out) fks₁ fvs₁ ≡ fieldsFrom 0 out fks fvs ++ leadFields lead
+  pub fields : fieldsFrom 0 (r .out) fs₁ ≡ fieldsFrom 0 out fs ++ leadFields lead
   pub upper : r .upper ≡ upperPlace lead out
   pub upper-within : r .upper ≤ r .out
   pub on : at ≤ r .at

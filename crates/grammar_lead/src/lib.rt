@@ -5,8 +5,9 @@ use grammar_look::lead_at;
 use grammar_output::put;
 use sheet::Field;
 ghost use Prim.Native.Nat.{_<_, _≤_};
+ghost use lib.ListN.{length};
 ghost use Rattle.source.specs.Limits.{mostCells};
-ghost use Rattle.grammar_output.specs.Internal.{Room, Ready};
+ghost use Rattle.grammar_output.specs.Internal.{Ready};
 ghost use Rattle.grammar_lead.specs.Internal.{SignedAs, OpenedAs};
 
 // Behind what an expression begins with: the next token, the next field, and the start of the operands of the upper levels.
@@ -17,19 +18,11 @@ pub struct Opened {
 }
 
 // A sign for which a field is written.
-fn signed(
-    at: usize,
-    fields: &mut [u8],
-    carried: &mut [u32],
-    out: usize,
-    f: Field,
-    upper: usize,
-) -> Opened
-    requires { ⌜ (at < mostCells) × (out ≤ at) × Room out (now fields) (now carried) ⌝ }
-    ensures { λ r. ⌜ SignedAs at out upper f (now (fields .entry)) (now (carried .entry)) r (now (fields .exit))
-        (now (carried .exit)) ⌝ }
+fn signed(at: usize, fields: &mut [u64], out: usize, f: Field, upper: usize) -> Opened
+    requires { ⌜ (at < mostCells) × (out ≤ at) × (out < length (now fields)) ⌝ }
+    ensures { λ r. ⌜ SignedAs at out upper f (now (fields .entry)) r (now (fields .exit)) ⌝ }
 {
-    put(fields, carried, out, f);
+    put(fields, out, f);
     Opened {
         at: at + 1,
         upper,
@@ -44,13 +37,12 @@ pub fn open(
     values: &[u32],
     n: usize,
     at: usize,
-    fields: &mut [u8],
-    carried: &mut [u32],
+    fields: &mut [u64],
     out: usize,
 ) -> Opened
-    requires { ⌜ Ready n at out (now fields) (now carried) ⌝ }
-    ensures { λ r. ⌜ OpenedAs n at out (now (kinds .entry)) (now (values .entry)) (now (fields .entry))
-        (now (carried .entry)) r (now (fields .exit)) (now (carried .exit)) ⌝ }
+    requires { ⌜ Ready n at out (now fields) ⌝ }
+    ensures { λ r. ⌜ OpenedAs n at out (now (kinds .entry)) (now (values .entry)) (now (fields .entry)) r
+        (now (fields .exit)) ⌝ }
 {
     let free = out + 1;
     match lead_at(kinds, values, n, at) {
@@ -59,8 +51,8 @@ pub fn open(
             upper: out,
             out,
         },
-        Lead::Minus => signed(at, fields, carried, out, Field::Neg, free),
-        Lead::Invert => signed(at, fields, carried, out, Field::Not, out),
+        Lead::Minus => signed(at, fields, out, Field::Neg, free),
+        Lead::Invert => signed(at, fields, out, Field::Not, out),
         Lead::Missing => Opened {
             at,
             upper: out,

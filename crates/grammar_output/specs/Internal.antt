@@ -1,8 +1,8 @@
 -- What the functions do with fields and places. A reader of the promises needs none of it.
-use Prim.Native.Nat.{ℕ, zero, suc, _+_, _<_, _≤_}
+use Prim.Native.Nat.{ℕ, _+_, _≤_}
 use mathlib.Core.List.{List, _∷_, _++_}
 use lib.Dec.{eqb}
-use lib.ListN.{length, getD, set as stored, take, drop}
+use lib.ListN.{length, take, drop}
 use Rattle.base.specs.Choice.{pick}
 use Rattle.sheet.specs.declared.Operator.{Operator}
 use Rattle.sheet.specs.declared.Field.{Field}
@@ -12,26 +12,16 @@ use Rattle.grammar_output.specs.declared.Step.{Step}
 use Rattle.grammar_output.specs.declared.Step.the-variants.{At, Missing}
 use Rattle.grammar_output.specs.declared.Places.{Places}
 
--- there is a place for one more field
-pub record Room (out : ℕ) (ks vs : List ℕ) : Type 0 where
-  pub kinds-room : out < length ks
-  pub values-room : out < length vs
-
--- k places from p on, each with what stood before it; the first with x
-unfoldable pub shifted : ℕ → ℕ → ℕ → List ℕ → List ℕ
-shifted zero p x l = l
-shifted (suc k) p x l = shifted k (suc p) (getD l p 0) (stored l p x)
-
+-- a field at place p; those from there on move up by one
 unfoldable pub insertAt : ℕ → Field → List Field → List Field
 insertAt p f fs = take p fs ++ f ∷ drop p fs
 
 -- the tokens from place `at` on are read, of n, and the fields are written from place `out` on
-pub record Ready (n at out : ℕ) (ks vs : List ℕ) : Type 0 where
+pub record Ready (n at out : ℕ) (fs : List ℕ) : Type 0 where
   pub short : n ≤ mostCells
   pub inside : at ≤ n
   pub fewer : out ≤ at
-  pub kinds-room : n ≤ length ks
-  pub values-room : n ≤ length vs
+  pub room : n ≤ length fs
 
 -- at least d tokens were read, and no more fields written than tokens read
 abbrev pub Moved : ℕ → ℕ → ℕ → ℕ → Step → Type 0

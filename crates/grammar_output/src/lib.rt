@@ -1,4 +1,4 @@
-// The fields that are written, which fill the front of two arrays up to a place `out`, and the places among them where an
+// The fields that are written, which fill the front of an array up to a place `out`, and the places among them where an
 // operator goes, document 01 ("Statements").
 use sheet::Field;
 use sheet::Operator;
@@ -6,11 +6,11 @@ use sheet_field::kind_of;
 use sheet_field::value_of;
 ghost use mathlib.Core.List.{[], _∷_, _++_};
 ghost use mathlib.Core.Path.{_≡_};
-ghost use Prim.Native.Nat.{_+_, _-_, _<_, _≤_};
+ghost use Prim.Native.Nat.{_+_, _<_, _≤_};
 ghost use lib.ListN.{length};
-ghost use Rattle.sheet_field.specs.Memory.{fieldsFrom};
+ghost use Rattle.sheet_field.specs.Memory.{carried, fieldWord, fieldsFrom};
 ghost use Rattle.source.specs.Grammar.{level};
-ghost use Rattle.grammar_output.specs.Internal.{Room, shifted, insertAt, placeFor, placesAfter};
+ghost use Rattle.grammar_output.specs.Internal.{insertAt, placeFor, placesAfter};
 
 // What was read: the place behind it among the tokens, and the place behind its fields. Or that there is nothing of the form.
 pub enum Step {
@@ -18,53 +18,35 @@ pub enum Step {
     Missing,
 }
 
+// A field as one number: `fieldWord`, with the fact that what it carries fits, so that it can be read back.
+fn packed(f: Field) -> u64
+    ensures { λ r. ⌜ (r ≡ fieldWord f) × (carried f < 4294967296) ⌝ }
+{
+    let v = value_of(f);
+    kind_of(f) as u64 * 4294967296 + v as u64
+}
+
 // Puts a field behind the others.
-pub fn put(kinds: &mut [u8], values: &mut [u32], out: usize, f: Field)
-    requires { ⌜ Room out (now kinds) (now values) ⌝ }
-    ensures { λ _. ⌜ fieldsFrom 0 (out + 1) (now (kinds .exit)) (now (values .exit))
-        ≡ fieldsFrom 0 out (now (kinds .entry)) (now (values .entry)) ++ (f ∷ []) ⌝ }
+pub fn put(fields: &mut [u64], out: usize, f: Field)
+    requires { ⌜ out < length (now fields) ⌝ }
+    ensures { λ _. ⌜ fieldsFrom 0 (out + 1) (now (fields .exit)) ≡ fieldsFrom 0 out (now (fields .entry)) ++ (f ∷ []) ⌝ }
 {
-    kinds[out] = kind_of(f);
-    values[out] = value_of(f);
-}
-
-// Moves what stands from p to before `end` one place up, and puts x at p.
-fn insert_byte(bytes: &mut [u8], p: usize, end: usize, x: u8)
-    requires { ⌜ (p ≤ end) × (end < length (now bytes)) ⌝ }
-    ensures { λ _. ⌜ now (bytes .exit) ≡ shifted (end + 1 - p) p x (now (bytes .entry)) ⌝ }
-{
-    let mut i = p;
-    let mut held = x;
-    while i <= end {
-        let y = bytes[i];
-        bytes[i] = held;
-        held = y;
-        i += 1;
-    }
-}
-
-fn insert_word(words: &mut [u32], p: usize, end: usize, x: u32)
-    requires { ⌜ (p ≤ end) × (end < length (now words)) ⌝ }
-    ensures { λ _. ⌜ now (words .exit) ≡ shifted (end + 1 - p) p x (now (words .entry)) ⌝ }
-{
-    let mut i = p;
-    let mut held = x;
-    while i <= end {
-        let y = words[i];
-        words[i] = held;
-        held = y;
-        i += 1;
-    }
+    fields[out] = packed(f);
 }
 
 // Puts a field at place p; those from there on move up by one.
-pub fn insert(kinds: &mut [u8], values: &mut [u32], p: usize, out: usize, f: Field)
-    requires { ⌜ Room out (now kinds) (now values) × (p ≤ out) ⌝ }
-    ensures { λ _. ⌜ fieldsFrom 0 (out + 1) (now (kinds .exit)) (now (values .exit))
-        ≡ insertAt p f (fieldsFrom 0 out (now (kinds .entry)) (now (values .entry))) ⌝ }
+pub fn insert(fields: &mut [u64], p: usize, out: usize, f: Field)
+    requires { ⌜ (out < length (now fields)) × (p ≤ out) ⌝ }
+    ensures { λ _. ⌜ fieldsFrom 0 (out + 1) (now (fields .exit)) ≡ insertAt p f (fieldsFrom 0 out (now (fields .entry))) ⌝ }
 {
-    insert_byte(kinds, p, out, kind_of(f));
-    insert_word(values, p, out, value_of(f));
+    let mut i = p;
+    let mut held = packed(f);
+    while i <= out {
+        let y = fields[i];
+        fields[i] = held;
+        held = y;
+        i += 1;
+    }
 }
 
 // Where the left operand of an operator of the lowest level, the middle one and the highest one would start.

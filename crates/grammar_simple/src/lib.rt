@@ -22,61 +22,51 @@ fn assigned(
     n: usize,
     at: usize,
     w: u32,
-    fields: &mut [u8],
-    carried: &mut [u32],
+    fields: &mut [u64],
     out: usize,
 ) -> Step
-    requires { ⌜ Ready n at out (now fields) (now carried) × (out < at) ⌝ }
+    requires { ⌜ Ready n at out (now fields) × (out < at) ⌝ }
     ensures moved { λ r. ⌜ Moved 1 n at (out + 1) r ⌝ }
-    ensures read { λ r. ⌜ stepped n (now (kinds .entry)) (now (values .entry)) r (now (fields .exit)) (now (carried .exit))
-        ≡ setPass w (fieldsFrom 0 out (now (fields .entry)) (now (carried .entry)))
+    ensures read { λ r. ⌜ stepped n (now (kinds .entry)) (now (values .entry)) r (now (fields .exit))
+        ≡ setPass w (fieldsFrom 0 out (now (fields .entry)))
         (left n at (now (kinds .entry)) (now (values .entry))) ⌝ }
 {
-    put(fields, carried, out, Field::Set(w));
-    expression(kinds, values, n, at, fields, carried, out + 1)
+    put(fields, out, Field::Set(w));
+    expression(kinds, values, n, at, fields, out + 1)
 }
 
 // The expression that is sent, up to its closing bracket.
-fn sent(
-    kinds: &[u8],
-    values: &[u32],
-    n: usize,
-    at: usize,
-    fields: &mut [u8],
-    carried: &mut [u32],
-    out: usize,
-) -> Step
-    requires { ⌜ Ready n at out (now fields) (now carried) × (out < at) ⌝ }
+fn sent(kinds: &[u8], values: &[u32], n: usize, at: usize, fields: &mut [u64], out: usize) -> Step
+    requires { ⌜ Ready n at out (now fields) × (out < at) ⌝ }
     ensures moved { λ r. ⌜ Moved 1 n at (out + 1) r ⌝ }
-    ensures read { λ r. ⌜ stepped n (now (kinds .entry)) (now (values .entry)) r (now (fields .exit)) (now (carried .exit))
-        ≡ sendPass (fieldsFrom 0 out (now (fields .entry)) (now (carried .entry)))
+    ensures read { λ r. ⌜ stepped n (now (kinds .entry)) (now (values .entry)) r (now (fields .exit))
+        ≡ sendPass (fieldsFrom 0 out (now (fields .entry)))
         (left n at (now (kinds .entry)) (now (values .entry))) ⌝ }
 {
-    put(fields, carried, out, Field::Send);
-    bracketed(kinds, values, n, at, fields, carried, out + 1)
+    put(fields, out, Field::Send);
+    bracketed(kinds, values, n, at, fields, out + 1)
 }
 
-// "`name = expr`, `SEND(expr)`, `->label`"
+// "`name = expr`, `SEND(expr)`, `->label`". It has a token more than fields.
 pub fn simple(
     kinds: &[u8],
     values: &[u32],
     n: usize,
     at: usize,
-    fields: &mut [u8],
-    carried: &mut [u32],
+    fields: &mut [u64],
     out: usize,
 ) -> Step
-    requires { ⌜ Ready n at out (now fields) (now carried) ⌝ }
-    ensures moved { λ r. ⌜ Moved 1 n at out r ⌝ }
-    ensures read { λ r. ⌜ stepped n (now (kinds .entry)) (now (values .entry)) r (now (fields .exit)) (now (carried .exit))
-        ≡ simplePass (fieldsFrom 0 out (now (fields .entry)) (now (carried .entry)))
+    requires { ⌜ Ready n at out (now fields) ⌝ }
+    ensures moved { λ r. ⌜ Moved 1 n (at + 1) out r ⌝ }
+    ensures read { λ r. ⌜ stepped n (now (kinds .entry)) (now (values .entry)) r (now (fields .exit))
+        ≡ simplePass (fieldsFrom 0 out (now (fields .entry)))
         (left n at (now (kinds .entry)) (now (values .entry))) ⌝ }
 {
     match opening_at(kinds, values, n, at) {
-        Opening::Set(w) => assigned(kinds, values, n, at + 2, w, fields, carried, out),
-        Opening::Send => sent(kinds, values, n, at + 2, fields, carried, out),
+        Opening::Set(w) => assigned(kinds, values, n, at + 2, w, fields, out),
+        Opening::Send => sent(kinds, values, n, at + 2, fields, out),
         Opening::Goto(l) => {
-            put(fields, carried, out, Field::Goto(l));
+            put(fields, out, Field::Goto(l));
             Step::At(at + 2, out + 1)
         }
         Opening::Missing => Step::Missing,

@@ -1,1 +1,3 @@
-pub mod LabelTurns
+pub mod Finding
+pub mod Setting
+pub mod Moving

@@ -1,18 +1,21 @@
-// The labels that are set, in memory: label l before instruction s is the number l * NUMBERS + s.
+// The labels that are set, in memory: a label is its number, times SPOTS, and the number of its spot. A spot's number is that of the
+// instruction after it, also while that is to come; behind the last instruction of a first part it is BEHIND and the number of
+// groups that are open round the IF.
 use source::GREATEST_LABEL;
 use source::TABLE_ROWS;
 use source::number::token_at;
 use source::number::value_of;
 ghost use mathlib.Core.Path.{_≡_};
 ghost use Prim.Native.Nat.{_+_};
-ghost use lib.ListN.{length};
-ghost use Rattle.source.specs.Program.{numberOf};
-ghost use Rattle.labels.specs.Memory.{labelsOf, labelsAt};
-ghost use Rattle.labels.specs.Answers.{setIn, fit, setOf};
-ghost use Rattle.labels.specs.Internal.{SetsAll};
+ghost use Rattle.source.specs.Program.{numberAt};
+ghost use Rattle.labels.specs.Memory.{spotIn, labelsOf, labelsAt};
+ghost use Rattle.labels.specs.Answers.{foundOf, fit, SetsLabels, PutsOff, TakesUp};
+ghost use Rattle.labels.specs.Internal.{SetsOne, SetsAll, movedEntry, Moves};
 
-// `instructionNumbers` of specs/Memory.antt.
-const NUMBERS: u32 = 2048;
+// `spotNumbers` and `instructionNumbers` of specs/Memory.antt.
+const SPOTS: u32 = 4096;
+
+const BEHIND: u32 = 2048;
 
 // How many labels are set now; that one of them cannot be; or that the table is not fit for them.
 pub enum Set {
@@ -21,44 +24,78 @@ pub enum Set {
     Unfit,
 }
 
-// The number of the instruction after a label, or 0.
-pub fn number_of(labels: &[u32], count: u32, l: u32) -> u32
-    ensures { λ r. ⌜ r ≡ numberOf (labelsOf count (now (labels .entry))) l ⌝ }
+// The number of the instruction after a label, or that the label is not set.
+pub enum Found {
+    Number(u32),
+    Missing,
+}
+
+// The number of the instruction after a spot; `next` is that of the instruction that comes next.
+fn number_at(spot: u32, next: u32) -> u32
+    ensures { λ r. ⌜ r ≡ numberAt next (spotIn next spot) ⌝ }
+{
+    if BEHIND <= spot {
+        return next;
+    }
+    spot
+}
+
+// The number of the instruction after a label.
+pub fn number_of(labels: &[u32], count: u32, next: u32, l: u32) -> Found
+    ensures { λ r. ⌜ r ≡ foundOf next (labelsOf next count (now (labels .entry))) l ⌝ }
 {
     let mut i: u32 = 0;
     while i < count {
         let e = base::word_at(labels, i as usize);
-        if e / NUMBERS == l {
-            return e % NUMBERS;
+        if e / SPOTS == l {
+            return Found::Number(number_at(e % SPOTS, next));
         }
         i += 1;
     }
-    0
+    Found::Missing
 }
 
-// Sets a statement's labels, which every second of its tokens carries, before instruction s, where there is room for them.
-fn set_all(kinds: &[u8], values: &[u32], many: usize, labels: &mut [u32], count: u32, s: u32) -> Set
-    ensures { λ r. ⌜ (SetsAll (now (labels .entry)) count s (labelsAt many (now (kinds .entry)) (now (values .entry))) r (now (labels .exit))) ⌝ }
+// Sets a label behind others, where there is room for it.
+fn set_label(labels: &mut [u32], count: u32, next: u32, l: u32) -> Set
+    ensures { λ r. ⌜ SetsOne (now (labels .entry)) count next l r (now (labels .exit)) ⌝ }
+{
+    if l == 0 {
+        return Set::Refused;
+    }
+    if GREATEST_LABEL < l {
+        return Set::Refused;
+    }
+    if let Found::Number(_) = number_of(labels, count, next, l) {
+        return Set::Refused;
+    }
+    if TABLE_ROWS <= count {
+        return Set::Unfit;
+    }
+    base::put_word(labels, count as usize, l * SPOTS + next % SPOTS);
+    Set::Labels(count + 1)
+}
+
+// Sets a statement's labels, which every second of its tokens carries, where there is room for them.
+fn set_all(
+    kinds: &[u8],
+    values: &[u32],
+    many: usize,
+    labels: &mut [u32],
+    count: u32,
+    next: u32,
+) -> Set
+    ensures { λ r. ⌜ SetsAll (now (labels .entry)) count next (labelsAt many (now (kinds .entry)) (now (values .entry))) r (now (labels .exit)) ⌝ }
 {
     let mut i = 0;
     let mut place = 0;
     let mut set = count;
     while i < many {
         let l = value_of(token_at(kinds, values, place));
-        if l == 0 {
-            return Set::Refused;
-        }
-        if GREATEST_LABEL < l {
-            return Set::Refused;
-        }
-        if number_of(labels, set, l) != 0 {
-            return Set::Refused;
-        }
-        if TABLE_ROWS <= set {
-            return Set::Unfit;
-        }
-        base::put_word(labels, set as usize, l * NUMBERS + s % NUMBERS);
-        set += 1;
+        set = match set_label(labels, set, next, l) {
+            Set::Labels(c) => c,
+            Set::Refused => return Set::Refused,
+            Set::Unfit => return Set::Unfit,
+        };
         i += 1;
         place += 2;
     }
@@ -78,24 +115,58 @@ fn is_fit(size: usize, count: u32, many: usize, s: u32) -> bool
     if (TABLE_ROWS as usize) < count as usize + many {
         return false;
     }
-    s < NUMBERS
+    s < BEHIND
 }
 
-// Sets a statement's labels before instruction s, behind the others of a table. Free is what the table holds behind the labels
-// that are set then, and all that it holds where they are not.
+// Sets a statement's labels before the next instruction, behind the others of a table. Free is what the table holds behind the
+// labels that are set then, and all that it holds where they are not.
 pub fn set_labels(
     kinds: &[u8],
     values: &[u32],
     many: usize,
     labels: &mut [u32],
     count: u32,
-    s: u32,
+    next: u32,
 ) -> Set
-    ensures told { λ r. ⌜ setIn r (now (labels .exit)) ≡ setOf count (now (labels .entry)) s (labelsAt many (now (kinds .entry)) (now (values .entry))) ⌝ }
-    ensures kept { λ _. ⌜ length (now (labels .exit)) ≡ length (now (labels .entry)) ⌝ }
+    ensures { λ r. ⌜ SetsLabels (now (labels .entry)) count next (labelsAt many (now (kinds .entry)) (now (values .entry))) r (now (labels .exit)) ⌝ }
 {
-    if is_fit(labels.len(), count, many, s) {
-        return set_all(kinds, values, many, labels, count, s);
+    if is_fit(labels.len(), count, many, next) {
+        return set_all(kinds, values, many, labels, count, next);
     }
     Set::Unfit
+}
+
+// A row of the table, its label moved to spot `to` where it stands at spot `from`.
+fn moved_entry(e: u32, from: u32, to: u32) -> u32
+    ensures { λ r. ⌜ r ≡ movedEntry from to e ⌝ }
+{
+    if e % SPOTS == from {
+        return e / SPOTS * SPOTS + to % SPOTS;
+    }
+    e
+}
+
+// Moves the labels at spot `from` to spot `to`.
+fn move_spots(labels: &mut [u32], from: u32, to: u32)
+    ensures { λ _. ⌜ Moves from to (now (labels .entry)) (now (labels .exit)) ⌝ }
+{
+    let mut i: usize = 0;
+    while i < labels.len() {
+        labels[i] = moved_entry(labels[i], from, to);
+        i += 1;
+    }
+}
+
+// A first part ends, round whose IF g groups are open.
+pub fn put_off(labels: &mut [u32], next: u32, g: u32)
+    ensures { λ _. ⌜ PutsOff next g (now (labels .entry)) (now (labels .exit)) ⌝ }
+{
+    move_spots(labels, next, BEHIND + g % BEHIND);
+}
+
+// An IF ends, round which g groups are open.
+pub fn take_up(labels: &mut [u32], g: u32, next: u32)
+    ensures { λ _. ⌜ TakesUp next g (now (labels .entry)) (now (labels .exit)) ⌝ }
+{
+    move_spots(labels, BEHIND + g % BEHIND, next);
 }

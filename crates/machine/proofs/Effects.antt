@@ -17,7 +17,7 @@ use Rattle.word.proofs.Closed.{comparison-closed, quotient-closed, power-closed
 use Rattle.order.specs.declared.Operation.{Operation}
 use Rattle.order.specs.declared.Operation.the-variants.{Load, Add, Sub, Mlt, Div, Exp, Shl, Shr, And, Or, Xor, Cmp}
 use Rattle.order.specs.declared.Order.{Order}
-use Rattle.order.specs.declared.Order.the-variants.{Word, Number, Store, Neg, Not, Jump, Branch, Send, Stop}
+use Rattle.order.specs.declared.Order.the-variants.{Word, Number, Store, Neg, Not, Jump, Skip, Branch, Send, Stop}
 use Rattle.order.specs.Order.{operand}
 use Rattle.order.specs.Object.{isStop}
 use Rattle.machine.specs.declared.Registers.{Registers}
@@ -80,6 +80,7 @@ pub data Case (r : Registers) (ws out : List ℕ) : Order → Effect → Type 0 
       → Case r ws out o (done (machine (advance a r) ws out))
   stores : (w : ℕ) → Case r ws out (Store w) (done (machine (advance (r .acc) r) (set ws w (r .acc)) out))
   jumps : (a : ℕ) → Case r ws out (Jump a) (done (machine (goTo a r) ws out))
+  skips : (a : ℕ) → Case r ws out (Skip a) (done (machine (goTo a r) ws out))
   branches : (s : Relation) (a : ℕ) → Case r ws out (Branch s a) (done (machine (goTo a r) ws out))
   sends :
       r .sent < length out / 4
@@ -119,6 +120,7 @@ module _ (r : Registers) (ws out : List ℕ) where
   case Neg = computes Neg (negation (r .acc)) refl (λ _ _ _. negation-closed (r .acc))
   case Not = computes Not (notBits (r .acc)) refl (λ _ _ _. not-closed (r .acc))
   case (Jump a) = jumps a
+  case (Skip a) = skips a
   case (Branch s a) = branched (relatedToZero s (r .acc)) s a
   case Send = sent-or-full (ltb (r .sent) (length out / 4)) (λ e. ltb-true (r .sent) (length out / 4) e)
   case Stop = stops
@@ -139,6 +141,7 @@ pub fate : {r : Registers} {ws out : List ℕ} {o : Order} {e : Effect} → Case
 fate {r} {ws} {out} (computes o a s c) = goes _ ws out refl refl refl
 fate {r} {ws} {out} (stores w) = goes _ _ out refl (length-set ws w (r .acc)) refl
 fate {r} {ws} {out} (jumps a) = goes _ ws out refl refl refl
+fate {r} {ws} {out} (skips a) = goes _ ws out refl refl refl
 fate {r} {ws} {out} (branches s a) = goes _ ws out refl refl refl
 fate {r} {ws} {out} (sends room) = goes _ ws _ refl refl (length-sets out (4 * r .sent) (wordBytes (r .acc)))
 fate stops = ends

@@ -9,7 +9,7 @@ use lib.ListN.{length, getD}
 use Rattle.base.specs.Choice.{pick}
 use Rattle.word.specs.Word.{Outcome, value, fault}
 use Rattle.order.specs.declared.Order.{Order}
-use Rattle.order.specs.declared.Order.the-variants.{Word, Number, Store, Neg, Not, Jump, Branch, Send, Stop}
+use Rattle.order.specs.declared.Order.the-variants.{Word, Number, Store, Neg, Not, Jump, Skip, Branch, Send, Stop}
 use Rattle.order.specs.Good.{Good}
 use Rattle.machine.specs.declared.Registers.{Registers}
 use Rattle.machine.specs.Machine.{Machine, machine, done, failed, ran, operate, toAcc, send, effect, run}
@@ -45,6 +45,7 @@ module _ (r : Registers) (ws out : List ℕ) (s : Registers) (vs left : List ℕ
   one-word Neg e = cc
   one-word Not e = cc
   one-word (Jump a) e = cc
+  one-word (Skip a) e = cc
   one-word (Branch q a) e = cc
   one-word Send e = sending-keeps (ltb (r .sent) (length out / 4)) _ _ e
   one-word Stop e = cc

@@ -9,13 +9,13 @@ use lib.ListN.{length, getD, set, length-set, List·getD-eq-default}
 use lib.Seq.{sets, length-sets, getD-set-other}
 use Rattle.base.proofs.Cases.{by-less}
 use Rattle.order.specs.declared.Order.{Order}
-use Rattle.order.specs.declared.Order.the-variants.{Store, Jump, Branch, Send, Stop}
+use Rattle.order.specs.declared.Order.the-variants.{Store, Jump, Skip, Branch, Send, Stop}
 use Rattle.order.specs.Object.{isStop}
 use Rattle.order.specs.Good.{OperandFits, Good}
 use Rattle.order.proofs.OrderTests.{numbers-small, not-stop}
 use Rattle.machine.specs.Machine.{Machine, machine, wordBytes}
 use Rattle.machine.specs.Frame.{Ending, Bytes, Operands, Words}
-use Rattle.machine.proofs.Effects.{computes, stores, jumps, branches, sends, stops, faults}
+use Rattle.machine.proofs.Effects.{computes, stores, jumps, skips, branches, sends, stops, faults}
 use Rattle.machine.proofs.Kept.{Keeps}
 
 -- ---- stores
@@ -88,6 +88,7 @@ module _ (os : List Order) where
   keeps-lengths n k r ws out _ _ i (computes o a s c) p = p
   keeps-lengths n k r ws out _ _ i (stores w) p = (length-set ws w (r .acc) ∙ p .0, p .1)
   keeps-lengths n k r ws out _ _ i (jumps a) p = p
+  keeps-lengths n k r ws out _ _ i (skips a) p = p
   keeps-lengths n k r ws out _ _ i (branches s a) p = p
   keeps-lengths n k r ws out _ _ i (sends room) p = (p .0, length-sets out (4 * r .sent) (wordBytes (r .acc)) ∙ p .1)
   keeps-lengths n k r ws out _ _ i stops p = p
@@ -97,6 +98,7 @@ module _ (os : List Order) where
   keeps-room r ws out _ _ i (computes o a s c) p = p
   keeps-room r ws out _ _ i (stores w) p = p
   keeps-room r ws out _ _ i (jumps a) p = p
+  keeps-room r ws out _ _ i (skips a) p = p
   keeps-room r ws out _ _ i (branches s a) p = p
   keeps-room r ws out _ _ i (sends room) p = rw (length-sets out (4 * r .sent) (wordBytes (r .acc))) (omega arith)
   keeps-room r ws out _ _ i stops p = p
@@ -106,6 +108,7 @@ module _ (os : List Order) where
   keeps-ending r ws out _ _ i (computes o a s c) p = p
   keeps-ending r ws out _ _ i (stores w) p = p
   keeps-ending r ws out _ _ i (jumps a) p = p
+  keeps-ending r ws out _ _ i (skips a) p = p
   keeps-ending r ws out _ _ i (branches s a) p = p
   keeps-ending r ws out _ _ i (sends room) p = p
   keeps-ending r ws out _ _ i stops p = inr refl
@@ -116,6 +119,7 @@ module _ (os : List Order) where
     keeps-words r ws out _ _ i (computes o a s c) p = (c (p .0) (p .1) (rw i at (small (r .next))), p .1)
     keeps-words r ws out _ _ i (stores w) p = (p .0, below-set 4294967296 ws w (r .acc) (p .1) (p .0))
     keeps-words r ws out _ _ i (jumps a) p = p
+    keeps-words r ws out _ _ i (skips a) p = p
     keeps-words r ws out _ _ i (branches s a) p = p
     keeps-words r ws out _ _ i (sends room) p = p
     keeps-words r ws out _ _ i stops p = p
@@ -125,6 +129,7 @@ module _ (os : List Order) where
     keeps-bytes r ws out _ _ i (computes o a s c) p = (keeps-words r ws out _ _ i (computes o a s c) (p .0), p .1)
     keeps-bytes r ws out _ _ i (stores w) p = (keeps-words r ws out _ _ i (stores w) (p .0), p .1)
     keeps-bytes r ws out _ _ i (jumps a) p = p
+    keeps-bytes r ws out _ _ i (skips a) p = p
     keeps-bytes r ws out _ _ i (branches s a) p = p
     keeps-bytes r ws out _ _ i (sends room) p = (p .0, below-sets 256 (wordBytes (r .acc)) out (4 * r .sent) (p .1) (word-bytes (r .acc) (p .0 .0)))
     keeps-bytes r ws out _ _ i stops p = p
@@ -137,6 +142,7 @@ module _ (v t : ℕ) (os : List Order) (good : Good v t os) where
       let above = fits v t os good (r .next) (Store w) i .0 in
       (getD-set-other ws w 0 (r .acc) 0 (λ z. omega arith) ∙ p .0, getD-set-other ws w 1 (r .acc) 0 (λ z. omega arith) ∙ p .1)
   keeps-links a b r ws out _ _ i (jumps x) p = p
+  keeps-links a b r ws out _ _ i (skips x) p = p
   keeps-links a b r ws out _ _ i (branches s x) p = p
   keeps-links a b r ws out _ _ i (sends room) p = p
   keeps-links a b r ws out _ _ i stops p = p
@@ -146,6 +152,7 @@ module _ (v t : ℕ) (os : List Order) (good : Good v t os) where
   keeps-inside r ws out _ _ i (computes o a s c) p = behind-inside v t os good (r .next) o i s p
   keeps-inside r ws out _ _ i (stores w) p = behind-inside v t os good (r .next) (Store w) i refl p
   keeps-inside r ws out _ _ i (jumps a) p = fits v t os good (r .next) (Jump a) i
+  keeps-inside r ws out _ _ i (skips a) p = fits v t os good (r .next) (Skip a) i
   keeps-inside r ws out _ _ i (branches s a) p = fits v t os good (r .next) (Branch s a) i
   keeps-inside r ws out _ _ i (sends room) p = behind-inside v t os good (r .next) Send i refl p
   keeps-inside r ws out _ _ i stops p = p

@@ -11,7 +11,7 @@ use Rattle.word.specs.Word.{wrap, signed, word, sum, difference, product, negat
 use Rattle.text.specs.Pieces.{digitsOf, fixed, digits, numeral}
 use Rattle.order.specs.declared.Operation.the-variants.{Load, Sub, Div, Cmp}
 use Rattle.order.specs.declared.Order.{Order}
-use Rattle.order.specs.declared.Order.the-variants.{Word, Number, Store, Jump, Branch, Send, Stop}
+use Rattle.order.specs.declared.Order.the-variants.{Word, Number, Store, Jump, Skip, Branch, Send, Stop}
 use Rattle.order.specs.Order.{table}
 use Rattle.order.specs.Object.{object, reading, text, recordsText}
 use Rattle.order.specs.Object.{withinLimits, headerAt, recordAmong, recordAt, linesAt}
@@ -20,7 +20,7 @@ use Rattle.machine.specs.Machine.{machine, ran, send, run}
 
 abbrev pub worked : List ℕ
 worked = bytes
-    "BOX\t2\t2\t21\nLOAD\tK\t3\nSTR\tD\t2\nLOAD\tD\t2\nSTR\tD\t4\nLOAD\tK\t2\nSUB\tK\t5\nDIV\tK\t2\nSTR\tD\t5\nLOAD\tD\t4\nSUB\tD\t5\nSTR\tD\t3\nLOAD\tD\t3\nCMP\tK\t4\nBLE\tA\t17\nLOAD\tD\t3\nSEND\t-\t0\nJMP\tA\t18\nJMP\tA\t18\nLOAD\tD\t2\nSEND\t-\t0\nSTOP\t-\t0\n"
+    "BOX\t2\t2\t21\nLOAD\tK\t3\nSTR\tD\t2\nLOAD\tD\t2\nSTR\tD\t4\nLOAD\tK\t2\nSUB\tK\t5\nDIV\tK\t2\nSTR\tD\t5\nLOAD\tD\t4\nSUB\tD\t5\nSTR\tD\t3\nLOAD\tD\t3\nCMP\tK\t4\nBLE\tA\t17\nLOAD\tD\t3\nSEND\t-\t0\nSKIP\tA\t18\nJMP\tA\t18\nLOAD\tD\t2\nSEND\t-\t0\nSTOP\t-\t0\n"
 
 abbrev orders : List Order
 orders =
@@ -40,7 +40,7 @@ orders =
     ∷ Branch AtMost 17
     ∷ Word Load 3
     ∷ Send
-    ∷ Jump 18
+    ∷ Skip 18
     ∷ Jump 18
     ∷ Word Load 2
     ∷ Send

@@ -5,7 +5,7 @@ use machine_effect::end_with;
 use machine_step::fault_ahead;
 use machine_step::step;
 ghost use mathlib.Core.Path.{_≡_};
-ghost use Rattle.order.specs.Memory.{ordersOf};
+ghost use Rattle.order.specs.Memory.{ordersIn};
 ghost use Rattle.machine.specs.Machine.{machine, ran, run};
 
 // The steps of a run and what it leaves, beside the words and the output.
@@ -15,19 +15,9 @@ pub struct Ran {
 }
 
 // The ending is tested once before the orders and once after each.
-pub fn run(
-    numbers: &[u8],
-    operands: &[u32],
-    words: &mut [u32],
-    output: &mut [u8],
-    r: Registers,
-    budget: u32,
-) -> Ran
+pub fn run(orders: &[u64], words: &mut [u32], output: &mut [u8], r: Registers, budget: u32) -> Ran
     ensures { λ d. ⌜ ran (d .steps) (machine (d .registers) (now (words .exit)) (now (output .exit)))
-        ≡ run
-        (ordersOf (now (numbers .entry)) (now (operands .entry)))
-        budget
-        (machine r (now (words .entry)) (now (output .entry))) ⌝ }
+        ≡ run (ordersIn (now (orders .entry))) budget (machine r (now (words .entry)) (now (output .entry))) ⌝ }
 {
     if r.ending != 0 {
         return Ran {
@@ -38,7 +28,7 @@ pub fn run(
     let mut state = r;
     let mut steps: u32 = 0;
     while steps < budget {
-        state = step(numbers, operands, words, output, state);
+        state = step(orders, words, output, state);
         let ending = state.ending;
         if ending != 0 {
             if ending == STOPPED {
@@ -56,6 +46,6 @@ pub fn run(
     }
     Ran {
         steps,
-        registers: end_with(fault_ahead(numbers, operands, words, output, state), state),
+        registers: end_with(fault_ahead(orders, words, output, state), state),
     }
 }

@@ -1,4 +1,4 @@
--- What the next order of the two arrays does: the fault that it meets, and the machine after it.
+-- What the next order of the array does: the fault that it meets, and the machine after it.
 use Prim.Native.Nat.{ℕ, zero, suc, _+_, _/_, _%_, _<_}
 use Prim.{Unit}
 use mathlib.Core.Path.{_≡_, refl, sym, ap, _∙_}
@@ -13,9 +13,9 @@ use Rattle.word.specs.Word.{Outcome, value, fault}
 use Rattle.order.specs.declared.Operation.{Operation}
 use Rattle.order.specs.declared.Operation.the-variants.{Load, Add, Sub, Mlt, Div, Exp, Shl, Shr, And, Or, Xor, Cmp}
 use Rattle.order.specs.declared.Order.{Order}
-use Rattle.order.specs.declared.Order.the-variants.{Word, Number, Store, Neg, Not, Jump, Branch, Send, Stop}
-use Rattle.order.specs.Memory.{shapes, orderOf, ordersOf}
-use Rattle.order.proofs.Numbers.{ordersOf-at}
+use Rattle.order.specs.declared.Order.the-variants.{Word, Number, Store, Neg, Not, Jump, Skip, Branch, Send, Stop}
+use Rattle.order.specs.Memory.{shapes, orderOf, orderIn, ordersIn}
+use Rattle.order.proofs.Arrays.{order-at}
 use Rattle.machine.specs.declared.Registers.{Registers}
 use Rattle.machine.specs.Machine.{Machine, machine, done, failed, endWith, operate, toAcc, send, effect, nextEffect}
 use Rattle.machine.specs.Internal.{stepped, faultOf}
@@ -45,6 +45,7 @@ mayFault (Store w) = false
 mayFault Neg = false
 mayFault Not = false
 mayFault (Jump a) = false
+mayFault (Skip a) = false
 mayFault (Branch r a) = false
 mayFault Send = true
 mayFault Stop = false
@@ -105,6 +106,7 @@ cannot-fault (Store w) (machine r ws out) e = refl
 cannot-fault Neg (machine r ws out) e = refl
 cannot-fault Not (machine r ws out) e = refl
 cannot-fault (Jump a) (machine r ws out) e = refl
+cannot-fault (Skip a) (machine r ws out) e = refl
 cannot-fault (Branch s a) (machine r ws out) e = refl
 cannot-fault Send m e = no-mark e
 cannot-fault Stop (machine r ws out) e = refl
@@ -115,12 +117,12 @@ quiet k v m q = cannot-fault (orderOf k v) m (sym (List·getD-map (λ shape. may
 
 -- ---- the fault that the next order meets
 
-module _ (ks vs : List ℕ) (r : Registers) (ws out : List ℕ) (k v n : ℕ) (kh : k ≡ getD ks (r .next) 0) (vh : v ≡ getD vs (r .next) 0) where
-  pub fault-met : n ≡ faultOf (effect (orderOf k v) (machine r ws out)) → n ≡ faultOf (nextEffect (ordersOf ks vs) (machine r ws out))
-  fault-met e = rw (ordersOf-at ks vs (r .next), ← kh, ← vh) e
+module _ (orders : List ℕ) (r : Registers) (ws out : List ℕ) (w n : ℕ) (h : w ≡ getD orders (r .next) 0) where
+  pub fault-met : n ≡ faultOf (effect (orderIn w) (machine r ws out)) → n ≡ faultOf (nextEffect (ordersIn orders) (machine r ws out))
+  fault-met e = rw (order-at orders (r .next), ← h) e
 
-  pub none-met : Quiet k → n ≡ 0 → n ≡ faultOf (nextEffect (ordersOf ks vs) (machine r ws out))
-  none-met q e = fault-met (e ∙ sym (quiet k v (machine r ws out) q))
+  pub none-met : Quiet (w / 4294967296) → n ≡ 0 → n ≡ faultOf (nextEffect (ordersIn orders) (machine r ws out))
+  none-met q e = fault-met (e ∙ sym (quiet (w / 4294967296) (w % 4294967296) (machine r ws out) q))
 
 pub fault-answered : (o p : Outcome) (n : ℕ) (m : Machine) → n ≡ faultIn o → o ≡ p → n ≡ faultOf (toAcc p m)
 fault-answered o p n m e i = e ∙ ap faultIn i ∙ sym (fault-of-operation p m)
@@ -155,26 +157,26 @@ carried-effect (Store w) r ws out = refl
 carried-effect Neg r ws out = refl
 carried-effect Not r ws out = refl
 carried-effect (Jump a) r ws out = refl
+carried-effect (Skip a) r ws out = refl
 carried-effect (Branch s a) r ws out = refl
 carried-effect Send r ws out = sent-effect (ltb (r .sent) (length out / 4)) _ r ws out
 carried-effect Stop r ws out = refl
 
 -- the place behind is counted modulo 2 to the 64: at the last place of all there is no order, so STOP
 pub step-carried :
-    (ks vs : List ℕ) (r : Registers) (ws out : List ℕ) (k v b : ℕ)
-    → k ≡ getD ks (r .next) 0
-    → v ≡ getD vs (r .next) 0
+    (orders : List ℕ) (r : Registers) (ws out : List ℕ) (w b : ℕ)
+    → w ≡ getD orders (r .next) 0
     → b ≡ (r .next + 1) % 18446744073709551616
-    → length ks < 18446744073709551616
-    → carried (orderOf k v) b (machine r ws out) ≡ stepped (nextEffect (ordersOf ks vs) (machine r ws out)) (machine r ws out)
+    → length orders < 18446744073709551616
+    → carried (orderIn w) b (machine r ws out) ≡ stepped (nextEffect (ordersIn orders) (machine r ws out)) (machine r ws out)
 unfolding orderOf shapes
-step-carried ks vs r ws out k v b kh vh bh few =
+step-carried orders r ws out w b h bh few =
     by-less
     (r .next)
-    (length ks)
+    (length orders)
     (λ l.
     let behind : b ≡ r .next + 1 = omega arith in
-    rw (ordersOf-at ks vs (r .next), ← kh, ← vh, behind) (carried-effect (orderOf k v) r ws out))
+    rw (order-at orders (r .next), ← h, behind) (carried-effect (orderIn w) r ws out))
     (λ g.
-    let none : k ≡ 0 = kh ∙ List·getD-eq-default ks 0 g in
-    rw (ordersOf-at ks vs (r .next), ← kh, ← vh, none))
+    let none : w ≡ 0 = h ∙ List·getD-eq-default orders 0 g in
+    rw (order-at orders (r .next), ← h, none))

@@ -1,6 +1,5 @@
-// One order of a program, carried out. A program is two arrays, the numbers of its orders (`number` of order's
-// specs/Order.antt) and their operands; a place outside them, and a number that no order has, count as STOP.
-use base::byte_at;
+// One order of a program, carried out. A program is an array of its orders, one number each (`orderWord` of order's
+// specs/Memory.antt); a place outside it, and a number that stands for no order, count as STOP.
 use base::word_at;
 use machine::OUTPUT_FULL;
 use machine::Registers;
@@ -16,51 +15,34 @@ use machine_effect::store;
 use order::Operation;
 use word::Answer;
 use word::Relation;
-ghost use Prim.Native.Nat.{_/_, _≤_};
+ghost use Prim.Native.Nat.{_/_};
 ghost use mathlib.Core.Path.{_≡_};
 ghost use lib.Dec.{ltb};
 ghost use lib.ListN.{length, getD};
 ghost use Rattle.base.specs.Choice.{pick};
 ghost use Rattle.word.specs.Answers.{outcome};
-ghost use Rattle.order.specs.Memory.{orderOf, ordersOf};
+ghost use Rattle.order.specs.Memory.{orderOf, ordersIn};
 ghost use Rattle.machine.specs.Machine.{machine, nextEffect};
 ghost use Rattle.machine.specs.Internal.{stepped, faultOf};
 ghost use Rattle.machine_step.specs.Internal.{faultIn, carried};
 
-// ---- reading the arrays
+// ---- reading the array
 
-struct Fetched {
-    number: u8,
-    operand: u32,
-}
-
-fn least(a: usize, b: usize) -> usize
-    ensures { λ r. ⌜ (r ≤ a) × (r ≤ b) ⌝ }
+// The number of the order at a place.
+fn fetch(orders: &[u64], place: usize) -> u64
+    ensures { λ w. ⌜ w ≡ getD (now (orders .entry)) place 0 ⌝ }
 {
-    if a < b { a } else { b }
-}
-
-// One test serves both arrays in a run: the lesser length does not change there.
-fn fetch(numbers: &[u8], operands: &[u32], place: usize) -> Fetched
-    ensures { λ f. ⌜ (f .number ≡ getD (now (numbers .entry)) place 0) × (f .operand ≡ getD (now (operands .entry)) place 0) ⌝ }
-{
-    if place < least(numbers.len(), operands.len()) {
-        return Fetched {
-            number: numbers[place],
-            operand: operands[place],
-        };
+    if place < orders.len() {
+        return orders[place];
     }
-    Fetched {
-        number: byte_at(numbers, place),
-        operand: word_at(operands, place),
-    }
+    0
 }
 
 // ---- an order carried out
 
 // "stepping decides over the order's number, a case per order"
 fn carry_out(
-    number: u8,
+    number: u32,
     v: u32,
     behind: usize,
     words: &mut [u32],
@@ -110,29 +92,24 @@ fn carry_out(
         33 => on_number(Operation::Or, v, behind, r),
         34 => on_number(Operation::Xor, v, behind, r),
         35 => on_number(Operation::Cmp, v, behind, r),
+        36 => go_to(v, r),
         _ => end_with(STOPPED, r),
     }
 }
 
 // One order: "a faulting order .. changes nothing but the ending". The place behind may wrap: at the last place that there
 // can be stands no order but STOP, which does not use it.
-pub fn step(
-    numbers: &[u8],
-    operands: &[u32],
-    words: &mut [u32],
-    output: &mut [u8],
-    r: Registers,
-) -> Registers
+pub fn step(orders: &[u64], words: &mut [u32], output: &mut [u8], r: Registers) -> Registers
     ensures { λ s. ⌜ machine s (now (words .exit)) (now (output .exit))
         ≡ stepped
-        (nextEffect (ordersOf (now (numbers .entry)) (now (operands .entry))) (machine r (now (words .entry)) (now (output .entry))))
+        (nextEffect (ordersIn (now (orders .entry))) (machine r (now (words .entry)) (now (output .entry))))
         (machine r (now (words .entry)) (now (output .entry))) ⌝ }
 {
     let place = r.next;
-    let order = fetch(numbers, operands, place);
+    let w = fetch(orders, place);
     carry_out(
-        order.number,
-        order.operand,
+        (w / 4294967296) as u32,
+        (w % 4294967296) as u32,
         std::num::wrapping_add_usize(place, 1),
         words,
         output,
@@ -163,19 +140,13 @@ fn full(output: &[u8], r: Registers) -> u32
 }
 
 // The fault that the next order meets, or 0, without carrying it out: no other order than these can fault.
-pub fn fault_ahead(
-    numbers: &[u8],
-    operands: &[u32],
-    words: &[u32],
-    output: &[u8],
-    r: Registers,
-) -> u32
+pub fn fault_ahead(orders: &[u64], words: &[u32], output: &[u8], r: Registers) -> u32
     ensures { λ n. ⌜ n ≡ faultOf
-        (nextEffect (ordersOf (now (numbers .entry)) (now (operands .entry))) (machine r (now (words .entry)) (now (output .entry)))) ⌝ }
+        (nextEffect (ordersIn (now (orders .entry))) (machine r (now (words .entry)) (now (output .entry)))) ⌝ }
 {
-    let order = fetch(numbers, operands, r.next);
-    let number = order.number;
-    let v = order.operand;
+    let w = fetch(orders, r.next);
+    let number = (w / 4294967296) as u32;
+    let v = (w % 4294967296) as u32;
     let a = r.acc;
     match number {
         1 => full(output, r),

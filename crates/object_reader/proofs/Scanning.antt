@@ -15,9 +15,8 @@ use Rattle.base.specs.Front.{found, missing, onFront}
 use Rattle.base.proofs.Cases.{by-test}
 use Rattle.base.proofs.Lists.{sets-more}
 use Rattle.order.specs.declared.Order.{Order}
-use Rattle.order.specs.declared.Order.the-variants.{Word, Number, Store, Neg, Not, Jump, Branch, Send, Stop}
-use Rattle.order.specs.Order.{operand}
-use Rattle.order.specs.Memory.{number}
+use Rattle.order.specs.declared.Order.the-variants.{Word, Number, Store, Neg, Not, Jump, Skip, Branch, Send, Stop}
+use Rattle.order.specs.Memory.{orderWord}
 use Rattle.order.specs.Object.{withinLimits, recordAt, Lines, linesAt, Reading, refused}
 use Rattle.order.specs.Object.{operandRefusal, isStop, firstOperand, firstStop}
 use Rattle.object_reader.specs.declared.Scan.{Scan}
@@ -72,6 +71,7 @@ module _ (words n : ℕ) where
   operand-troubled Neg k after = refl
   operand-troubled Not k after = refl
   operand-troubled (Jump a) k after = address-troubled a n k after
+  operand-troubled (Skip a) k after = address-troubled a n k after
   operand-troubled (Branch r a) k after = address-troubled a n k after
   operand-troubled Send k after = refl
   operand-troubled Stop k after = refl
@@ -125,19 +125,18 @@ after-lines os ls = lines (os ++ ls .orders) (ls .rest)
 regroup : (os : List Order) (o : Order) (ls : Lines) → after-lines os (after-lines (o ∷ []) ls) ≡ after-lines (os ++ o ∷ []) ls
 regroup os o ls = ap (λ l. lines l (ls .rest)) (sym (append-snoc os o (ls .orders)))
 
--- what holds of the scan and of the arrays before each turn: some lines are read, and what is left gives the rest of them
-pub record Filling (words n : ℕ) (s : List ℕ) (at : ℕ) (numbers₀ operands₀ numbers operands : List ℕ) (scan : Scan) : Type 0 where
+-- what holds of the scan and of the array before each turn: some lines are read, and what is left gives the rest of them
+pub record Filling (words n : ℕ) (s : List ℕ) (at : ℕ) (array₀ array : List ℕ) (scan : Scan) : Type 0 where
   pub orders : List Order
   pub counted : scan .count ≡ length orders
   pub few : scan .count ≤ n
   pub here : linesAt n (drop at s) ≡ after-lines orders (linesAt (n - scan .count) (drop (scan .at) s))
   pub checked : (after : Reading) → firstOperand words n 0 orders after ≡ troubled (scan .trouble) after
   pub stops : scan .stop ≡ firstStop 0 orders
-  pub filled : numbers ≡ sets numbers₀ 0 (map number orders)
-  pub filled-too : operands ≡ sets operands₀ 0 (map operand orders)
+  pub filled : array ≡ sets array₀ 0 (map orderWord orders)
 
-module _ (words n : ℕ) (s : List ℕ) (at : ℕ) (numbers₀ operands₀ : List ℕ) where
-  pub filling-start : Filling words n s at numbers₀ operands₀ numbers₀ operands₀ (record { at = at; count = 0; trouble = Free; stop = 0 })
+module _ (words n : ℕ) (s : List ℕ) (at : ℕ) (array₀ : List ℕ) where
+  pub filling-start : Filling words n s at array₀ array₀ (record { at = at; count = 0; trouble = Free; stop = 0 })
   unfolding firstOperand firstStop
   filling-start = record {
     orders = [];
@@ -147,10 +146,9 @@ module _ (words n : ℕ) (s : List ℕ) (at : ℕ) (numbers₀ operands₀ : Lis
     checked = λ after. refl;
     stops = refl;
     filled = refl;
-    filled-too = refl;
   }
 
-  module _ (numbers operands : List ℕ) (scan : Scan) (f : Filling words n s at numbers₀ operands₀ numbers operands scan) where
+  module _ (array : List ℕ) (scan : Scan) (f : Filling words n s at array₀ array scan) where
     -- the lines from here on, where a record stands here
     line-more :
         (o : Order) (i : ℕ)
@@ -166,16 +164,7 @@ module _ (words n : ℕ) (s : List ℕ) (at : ℕ) (numbers₀ operands₀ : Lis
         (o : Order) (i : ℕ)
         → scan .count < n
         → recordAt (drop (scan .at) s) ≡ found o (drop i s)
-        → Filling
-        words
-        n
-        s
-        at
-        numbers₀
-        operands₀
-        (set numbers (scan .count) (number o))
-        (set operands (scan .count) (operand o))
-        (notedScan words n o i scan)
+        → Filling words n s at array₀ (set array (scan .count) (orderWord o)) (notedScan words n o i scan)
     filling-turn o i h e = record {
       orders = f .orders ++ o ∷ [];
       counted = omega (arith, length-append (f .orders) (o ∷ []), f .counted);
@@ -190,31 +179,24 @@ module _ (words n : ℕ) (s : List ℕ) (at : ℕ) (numbers₀ operands₀ : Lis
           ap (λ k. nextStop k (scan .count) o) (f .stops)
           ∙ ap (λ k. nextStop (firstStop 0 (f .orders)) k o) (sym place)
           ∙ sym (stop-snoc 0 (f .orders) o);
-      filled = ap (λ l. set l (scan .count) (number o)) (f .filled) ∙ fill-more number numbers₀ (f .orders) o (scan .count) (f .counted);
-      filled-too = ap (λ l. set l (scan .count) (operand o)) (f .filled-too) ∙ fill-more operand operands₀ (f .orders) o (scan .count) (f .counted);
+      filled = ap (λ l. set l (scan .count) (orderWord o)) (f .filled) ∙ fill-more orderWord array₀ (f .orders) o (scan .count) (f .counted);
     }
       where
         place : 0 + length (f .orders) ≡ scan .count
         place = omega (arith, f .counted)
 
-    -- the arrays keep their lengths
-    pub numbers-length : length numbers ≡ length numbers₀
-    numbers-length = ap length (f .filled) ∙ length-sets numbers₀ 0 (map number (f .orders))
-
-    pub operands-length : length operands ≡ length operands₀
-    operands-length = ap length (f .filled-too) ∙ length-sets operands₀ 0 (map operand (f .orders))
+    -- the array keeps its length
+    pub length-kept : length array ≡ length array₀
+    length-kept = ap length (f .filled) ∙ length-sets array₀ 0 (map orderWord (f .orders))
 
     -- no line is left to read
     pub filling-end :
         linesAt (n - scan .count) (drop (scan .at) s) ≡ lines [] (drop (scan .at) s)
-        → ScanOf words n s (linesAt n (drop at s)) scan
-        × (numbers ≡ sets numbers₀ 0 (map number (linesAt n (drop at s) .orders)))
-        × (operands ≡ sets operands₀ 0 (map operand (linesAt n (drop at s) .orders)))
+        → ScanOf words n s (linesAt n (drop at s)) scan × (array ≡ sets array₀ 0 (map orderWord (linesAt n (drop at s) .orders)))
     filling-end e =
         rw (f .here ∙ ap (λ ls. after-lines (f .orders) ls) e ∙ ap (λ l. lines l (drop (scan .at) s)) (append-nil (f .orders))) (
           record { counted = f .counted; behind = refl; operands = f .checked; stops = f .stops },
           f .filled,
-          f .filled-too,
         )
 
     pub filling-over : n ≤ scan .count → linesAt (n - scan .count) (drop (scan .at) s) ≡ lines [] (drop (scan .at) s)

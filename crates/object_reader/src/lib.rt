@@ -3,8 +3,7 @@ use order::MOST_ORDERS;
 use order::MOST_TEMPORARIES;
 use order::MOST_VARIABLES;
 use order::Order;
-use order_number::number_of;
-use order_number::operand_of;
+use order_number::put_order;
 use order_record::Record;
 use order_record::record_at;
 use text::read::Numeral;
@@ -16,8 +15,7 @@ ghost use mathlib.Core.List.{map};
 ghost use Prim.Native.Nat.{_<_};
 ghost use lib.ListN.{drop};
 ghost use lib.Seq.{sets};
-ghost use Rattle.order.specs.Order.{operand};
-ghost use Rattle.order.specs.Memory.{number};
+ghost use Rattle.order.specs.Memory.{orderWord};
 ghost use Rattle.order.specs.Object.{headerAt, withinLimits, linesAt, linesOf, reading, isStop};
 ghost use Rattle.object_reader.specs.Answers.{verdict, verdictOf};
 ghost use Rattle.object_reader.specs.Internal.{headerFound, headerBounded, wordTrouble, addressTrouble, troubleOf, firstTrouble};
@@ -126,6 +124,7 @@ fn trouble_of(o: Order, words: u32, n: u32, place: u32) -> Trouble
         Order::Neg => Trouble::Free,
         Order::Not => Trouble::Free,
         Order::Jump(a) => address_trouble(a, n, place),
+        Order::Skip(a) => address_trouble(a, n, place),
         Order::Branch(_, a) => address_trouble(a, n, place),
         Order::Send => Trouble::Free,
         Order::Stop => Trouble::Free,
@@ -153,6 +152,7 @@ fn is_stop(o: Order) -> bool
         Order::Neg => false,
         Order::Not => false,
         Order::Jump(_) => false,
+        Order::Skip(_) => false,
         Order::Branch(_, _) => false,
         Order::Send => false,
         Order::Stop => true,
@@ -187,18 +187,10 @@ fn noted(scan: Scan, o: Order, at: usize, words: u32, n: u32) -> Scan
     }
 }
 
-// Reads the good lines from a place on, at most n of them, into the arrays as far as those reach.
-fn read_lines(
-    s: &[u8],
-    at: usize,
-    words: u32,
-    n: u32,
-    numbers: &mut [u8],
-    operands: &mut [u32],
-) -> Scan
+// Reads the good lines from a place on, at most n of them, into the array as far as it reaches.
+fn read_lines(s: &[u8], at: usize, words: u32, n: u32, orders: &mut [u64]) -> Scan
     ensures scanned { λ r. ⌜ ScanOf words n (now (s .entry)) (linesAt n (drop at (now (s .entry)))) r ⌝ }
-    ensures numbered { λ _. ⌜ now (numbers .exit) ≡ sets (now (numbers .entry)) 0 (map number (linesAt n (drop at (now (s .entry))) .orders)) ⌝ }
-    ensures ordered { λ _. ⌜ now (operands .exit) ≡ sets (now (operands .entry)) 0 (map operand (linesAt n (drop at (now (s .entry))) .orders)) ⌝ }
+    ensures ordered { λ _. ⌜ now (orders .exit) ≡ sets (now (orders .entry)) 0 (map orderWord (linesAt n (drop at (now (s .entry))) .orders)) ⌝ }
 {
     let mut scan = Scan {
         at,
@@ -209,8 +201,7 @@ fn read_lines(
     while scan.count < n {
         match record_at(s, scan.at) {
             Record::Found(o, i) => {
-                base::put_byte(numbers, scan.count as usize, number_of(o));
-                base::put_word(operands, scan.count as usize, operand_of(o));
+                put_order(orders, scan.count as usize, o);
                 scan = noted(scan, o, i, words, n);
             }
             Record::Missing => {
@@ -254,16 +245,15 @@ fn judged(scan: Scan, len: usize, v: u32, t: u32, n: u32) -> Reading
     }
 }
 
-// Reads an object into two arrays: the numbers of its orders and their operands. Where it is refused, they hold the good
-// lines before the first bad one.
-pub fn read(s: &[u8], numbers: &mut [u8], operands: &mut [u32]) -> Reading
+// Reads an object into an array of its orders, a number each. Where it is refused, the array holds the good lines before the
+// first bad one.
+pub fn read(s: &[u8], orders: &mut [u64]) -> Reading
     ensures replied { λ r. ⌜ verdict r ≡ verdictOf (reading (now (s .entry))) ⌝ }
-    ensures numbered { λ _. ⌜ now (numbers .exit) ≡ sets (now (numbers .entry)) 0 (map number (linesOf (now (s .entry)))) ⌝ }
-    ensures ordered { λ _. ⌜ now (operands .exit) ≡ sets (now (operands .entry)) 0 (map operand (linesOf (now (s .entry)))) ⌝ }
+    ensures ordered { λ _. ⌜ now (orders .exit) ≡ sets (now (orders .entry)) 0 (map orderWord (linesOf (now (s .entry)))) ⌝ }
 {
     match header_at(s) {
         Head::Found(v, t, n, at) => {
-            let scan = read_lines(s, at, v + t + 2, n, numbers, operands);
+            let scan = read_lines(s, at, v + t + 2, n, orders);
             judged(scan, s.len(), v, t, n)
         }
         Head::Missing => Reading::Header,

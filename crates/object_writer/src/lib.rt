@@ -1,4 +1,6 @@
 // The text of an object, written into a lent buffer.
+use order::MOST_ORDERS;
+use order_number::order_in;
 use order_record::put_record;
 use order_record::record_length;
 use text::write::decimal_length;
@@ -10,9 +12,10 @@ ghost use Prim.Native.Nat.{_≤_};
 ghost use lib.ListN.{length};
 ghost use Rattle.text.specs.Buffer.{filledWith};
 ghost use Rattle.text.specs.Internal.{placed, putAll};
-ghost use Rattle.order.specs.Memory.{ordersFrom};
+ghost use Rattle.order.specs.Limits.{mostOrders};
+ghost use Rattle.order.specs.Memory.{ordersIn};
 ghost use Rattle.order.specs.Object.{recordsText, headerText, text};
-ghost use Rattle.object_writer.specs.Answers.{written, replyFor};
+ghost use Rattle.object_writer.specs.Answers.{written, replyFor, WhereFew};
 
 // What became of a text: its length, or that the buffer is shorter than it.
 pub enum Written {
@@ -42,46 +45,46 @@ fn header_length(v: u32, t: u32, n: u32) -> usize
 }
 
 // The length of the text that `write` writes.
-pub fn text_length(numbers: &[u8], operands: &[u32], v: u32, t: u32, n: u32) -> usize
-    ensures { λ r. ⌜ r ≡ length (text v t (ordersFrom 0 n (now (numbers .entry)) (now (operands .entry)))) ⌝ }
+fn text_length(orders: &[u64], v: u32, t: u32) -> usize
+    requires { ⌜ length (now orders) ≤ mostOrders ⌝ }
+    ensures { λ r. ⌜ r ≡ length (text v t (ordersIn (now (orders .entry)))) ⌝ }
 {
-    let mut total = header_length(v, t, n);
-    let mut i: u32 = 0;
-    while i < n {
-        let k = base::byte_at(numbers, i as usize);
-        let x = base::word_at(operands, i as usize);
-        total += record_length(k, x);
+    let mut total = header_length(v, t, orders.len() as u32);
+    let mut i: usize = 0;
+    while i < orders.len() {
+        total += record_length(order_in(orders[i]));
         i += 1;
     }
     total
 }
 
-// The records of the first n orders.
-fn put_records(buffer: &mut [u8], at: usize, numbers: &[u8], operands: &[u32], n: u32) -> usize
-    ensures { λ r. ⌜ placed r (now (buffer .exit)) ≡ putAll (recordsText (ordersFrom 0 n (now (numbers .entry)) (now (operands .entry)))) (placed at (now (buffer .entry))) ⌝ }
+// The records of the orders.
+fn put_records(buffer: &mut [u8], at: usize, orders: &[u64]) -> usize
+    ensures { λ r. ⌜ placed r (now (buffer .exit)) ≡ putAll (recordsText (ordersIn (now (orders .entry)))) (placed at (now (buffer .entry))) ⌝ }
 {
     let mut j = at;
-    let mut i: u32 = 0;
-    while i < n {
-        let k = base::byte_at(numbers, i as usize);
-        let x = base::word_at(operands, i as usize);
-        j = put_record(buffer, j, k, x);
+    let mut i: usize = 0;
+    while i < orders.len() {
+        j = put_record(buffer, j, order_in(orders[i]));
         i += 1;
     }
     j
 }
 
-// Writes the text of the object with V, T and the first n orders of two arrays: their numbers and their operands. The room
-// for all of it is tested first, so a buffer that is too short keeps every byte.
-pub fn write(numbers: &[u8], operands: &[u32], v: u32, t: u32, n: u32, buffer: &mut [u8]) -> Written
-    ensures replied { λ r. ⌜ written r ≡ replyFor (text v t (ordersFrom 0 n (now (numbers .entry)) (now (operands .entry)))) (now (buffer .entry)) ⌝ }
-    ensures filled { λ _. ⌜ now (buffer .exit) ≡ filledWith (text v t (ordersFrom 0 n (now (numbers .entry)) (now (operands .entry)))) (now (buffer .entry)) ⌝ }
+// Writes the text of the object with V, T and the orders lent, of which an object has no more than MOST_ORDERS. The room for
+// all of it is tested first, so a buffer that is too short keeps every byte.
+pub fn write(orders: &[u64], v: u32, t: u32, buffer: &mut [u8]) -> Written
+    ensures replied { λ r. ⌜ WhereFew (now (orders .entry)) (written r ≡ replyFor (text v t (ordersIn (now (orders .entry)))) (now (buffer .entry))) ⌝ }
+    ensures filled { λ _. ⌜ WhereFew (now (orders .entry)) (now (buffer .exit) ≡ filledWith (text v t (ordersIn (now (orders .entry)))) (now (buffer .entry))) ⌝ }
 {
-    let total = text_length(numbers, operands, v, t, n);
+    if (MOST_ORDERS as usize) < orders.len() {
+        return Written::Short;
+    }
+    let total = text_length(orders, v, t);
     if buffer.len() < total {
         return Written::Short;
     }
-    let at = put_header(buffer, 0, v, t, n);
-    put_records(buffer, at, numbers, operands, n);
+    let at = put_header(buffer, 0, v, t, orders.len() as u32);
+    put_records(buffer, at, orders);
     Written::Whole(total)
 }

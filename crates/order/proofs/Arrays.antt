@@ -1,41 +1,46 @@
--- The arrays that `read` fills hold the orders that it read.
-use Prim.Native.Nat.{ℕ, suc, _+_, _<_, _≤_}
+-- The array that `read` fills holds the orders that it read.
+use Prim.Native.Nat.{ℕ, suc, _<_, _≤_}
 use mathlib.Core.Path.{_≡_, refl, sym, ap, ap₂, _∙_}
 use mathlib.Core.List.{List, [], _∷_, map}
 use native.Mathlib.Omega.{arith}
-use native.Mathlib.Nat.{add-zero, add-suc, suc-add}
-use lib.ListN.{length, getD, length-map, List·getD-map}
+use native.Mathlib.Nat.{zero-add}
+use lib.ListN.{length, getD, take, length-map, List·getD-map}
 use lib.Seq.{sets}
-use Rattle.base.proofs.Lists.{getD-sets}
+use Rattle.base.proofs.Lists.{take-sets}
 use Rattle.order.specs.declared.Order.{Order}
 use Rattle.order.specs.declared.Order.the-variants.{Stop}
 use Rattle.order.specs.Order.{operand}
-use Rattle.order.specs.Memory.{number, orderOf, ordersFrom}
-use Rattle.order.proofs.Numbers.{order-again}
+use Rattle.order.specs.Memory.{shapes, orderOf, orderWord, orderIn, ordersIn}
+use Rattle.order.specs.Good.{Good}
+use Rattle.order.proofs.Numbers.{order-in}
+use Rattle.order.proofs.OrderTests.{numbers-small}
 
--- an array holds what f gives of each order, from place k on
-abbrev Held : (Order → ℕ) → List Order → ℕ → List ℕ → Type 0
-Held f os k l = (j : ℕ) → j < length os → getD l (k + j) 0 ≡ f (getD os j Stop)
+-- the operands are words
+pub data Narrow : List Order → Type 0 where
+  none : Narrow []
+  more : {o : Order} {os : List Order} → operand o < 4294967296 → Narrow os → Narrow (o ∷ os)
 
-held-rest : (f : Order → ℕ) (o : Order) (os : List Order) (k : ℕ) (l : List ℕ) → Held f (o ∷ os) k l → Held f os (suc k) l
-held-rest f o os k l h j less = ap (λ i. getD l i 0) (suc-add k j ∙ sym (add-suc k j)) ∙ h (suc j) (omega arith)
+pub orders-in : (os : List Order) → Narrow os → ordersIn (map orderWord os) ≡ os
+orders-in _ none = refl
+orders-in _ (more {o} {os} h hs) = ap₂ _∷_ (order-in o h) (orders-in os hs)
 
-orders-held : (os : List Order) (k : ℕ) (ks vs : List ℕ) → Held number os k ks → Held operand os k vs → ordersFrom k (length os) ks vs ≡ os
-unfolding ordersFrom
-orders-held [] k ks vs hk hv = refl
-orders-held (o ∷ os) k ks vs hk hv =
-    ap₂ _∷_
-    (ap₂ orderOf (ap (λ i. getD ks i 0) (sym (add-zero k)) ∙ hk 0 (omega arith)) (ap (λ i. getD vs i 0) (sym (add-zero k)) ∙ hv 0 (omega arith))
-    ∙ order-again o)
-    (orders-held os (suc k) ks vs (held-rest number o os k ks hk) (held-rest operand o os k vs hv))
+-- those of a good object are
+narrow : (os : List Order) → ((k : ℕ) → k < length os → operand (getD os k Stop) ≤ 2147483647) → Narrow os
+narrow [] h = none
+narrow (o ∷ os) h = more {o = o} (omega (arith, h 0 (omega arith))) (narrow os (λ k l. h (suc k) (omega arith)))
 
--- an array filled from its front
-filled-held : (f : Order → ℕ) → f Stop ≡ 0 → (os : List Order) (l : List ℕ) → length os ≤ length l → Held f os 0 (sets l 0 (map f os))
-filled-held f zero-stop os l room j less =
-    getD-sets (map f os) l 0 j 0 (rw (length-map os f) less) (rw (length-map os f) (omega arith))
-    ∙ ap (λ d. getD (map f os) j d) (sym zero-stop)
-    ∙ List·getD-map f os j Stop
+pub good-narrow : (v t : ℕ) (os : List Order) → Good v t os → Narrow os
+good-narrow v t os g = narrow os (numbers-small v t os g)
 
-pub arrays-hold : (os : List Order) (ks vs : List ℕ) → length os ≤ length ks → length os ≤ length vs
-    → ordersFrom 0 (length os) (sets ks 0 (map number os)) (sets vs 0 (map operand os)) ≡ os
-arrays-hold os ks vs room room-too = orders-held os 0 _ _ (filled-held number refl os ks room) (filled-held operand refl os vs room-too)
+-- the order at a place of an array; behind its end stands STOP
+pub order-at : (ws : List ℕ) (i : ℕ) → getD (ordersIn ws) i Stop ≡ orderIn (getD ws i 0)
+unfolding orderOf shapes
+order-at ws i = List·getD-map orderIn ws i 0
+
+-- an array that is filled from its front holds there what it was filled with
+pub array-holds : (os : List Order) (ws : List ℕ) → Narrow os → length os ≤ length ws → ordersIn (take (length os) (sets ws 0 (map orderWord os))) ≡ os
+array-holds os ws small room =
+    let count = length-map os orderWord in
+    ap (λ n. ordersIn (take n (sets ws 0 (map orderWord os)))) (sym (zero-add _ ∙ count))
+    ∙ ap ordersIn (take-sets ws 0 (map orderWord os) (omega (arith, count, room)))
+    ∙ orders-in os small

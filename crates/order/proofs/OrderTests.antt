@@ -10,7 +10,7 @@ use lib.ListN.{length, getD}
 use Rattle.base.specs.Choice.{pick}
 use Rattle.base.proofs.Cases.{by-test}
 use Rattle.order.specs.declared.Order.{Order}
-use Rattle.order.specs.declared.Order.the-variants.{Word, Number, Store, Neg, Not, Jump, Branch, Send, Stop}
+use Rattle.order.specs.declared.Order.the-variants.{Word, Number, Store, Neg, Not, Jump, Skip, Branch, Send, Stop}
 use Rattle.order.specs.Order.{operand}
 use Rattle.order.specs.Object.{operandRefusal, isStop}
 use Rattle.order.specs.Good.{WordFits, OperandFits, Good}
@@ -51,6 +51,7 @@ module _ (v t n : ℕ) where
   fits-passes Neg h = refl
   fits-passes Not h = refl
   fits-passes (Jump a) h = address-passes n a (omega (arith, h))
+  fits-passes (Skip a) h = address-passes n a (omega (arith, h))
   fits-passes (Branch r a) h = address-passes n a (omega (arith, h))
   fits-passes Send h = refl
   fits-passes Stop h = refl
@@ -62,6 +63,7 @@ module _ (v t n : ℕ) where
   passed-fits Neg small e = tt
   passed-fits Not small e = tt
   passed-fits (Jump a) small e = address-fits n a e
+  passed-fits (Skip a) small e = address-fits n a e
   passed-fits (Branch r a) small e = address-fits n a e
   passed-fits Send small e = tt
   passed-fits Stop small e = tt
@@ -74,6 +76,7 @@ module _ (v t n : ℕ) where
   small-operand a b c Neg h = omega arith
   small-operand a b c Not h = omega arith
   small-operand a b c (Jump x) h = omega (arith, c, h)
+  small-operand a b c (Skip x) h = omega (arith, c, h)
   small-operand a b c (Branch r x) h = omega (arith, c, h)
   small-operand a b c Send h = omega arith
   small-operand a b c Stop h = omega arith
@@ -95,6 +98,7 @@ stop-told (Store w) e = never e
 stop-told Neg e = never e
 stop-told Not e = never e
 stop-told (Jump a) e = never e
+stop-told (Skip a) e = never e
 stop-told (Branch r a) e = never e
 stop-told Send e = never e
 stop-told Stop e = refl

@@ -5,7 +5,7 @@ use mathlib.Core.Path.{_≡_}
 use mathlib.Core.List.{List}
 use lib.ListN.{length, getD}
 use Rattle.order.specs.declared.Order.{Order}
-use Rattle.order.specs.declared.Order.the-variants.{Word, Number, Store, Neg, Not, Jump, Branch, Send, Stop}
+use Rattle.order.specs.declared.Order.the-variants.{Word, Number, Store, Neg, Not, Jump, Skip, Branch, Send, Stop}
 use Rattle.order.specs.Limits.{mostVariables, mostTemporaries, mostOrders}
 
 -- "word not in 2..V+T+1" is refused
@@ -21,6 +21,7 @@ OperandFits v t n (Store w) = WordFits v t w
 OperandFits v t n Neg = Unit {0}
 OperandFits v t n Not = Unit {0}
 OperandFits v t n (Jump a) = a < n
+OperandFits v t n (Skip a) = a < n
 OperandFits v t n (Branch r a) = a < n
 OperandFits v t n Send = Unit {0}
 OperandFits v t n Stop = Unit {0}

@@ -1,5 +1,5 @@
--- Orders in memory, where they are two arrays: their numbers, and their operands. No text depends on these numbers.
-use Prim.Native.Nat.{ℕ, zero, suc, _+_}
+-- Orders in memory, where each is one number. No text depends on these numbers.
+use Prim.Native.Nat.{ℕ, _+_, _*_, _/_, _%_}
 use mathlib.Core.List.{List, [], _∷_, _++_, map}
 use lib.ListN.{getD}
 use Rattle.word.specs.declared.Relation.{Relation}
@@ -7,8 +7,8 @@ use Rattle.word.specs.declared.Relation.the-variants.{Equal, Unequal, Less, AtM
 use Rattle.order.specs.declared.Operation.{Operation}
 use Rattle.order.specs.declared.Operation.the-variants.{Load, Add, Sub, Mlt, Div, Exp, Shl, Shr, And, Or, Xor, Cmp}
 use Rattle.order.specs.declared.Order.{Order}
-use Rattle.order.specs.declared.Order.the-variants.{Word, Number, Store, Neg, Not, Jump, Branch, Send, Stop}
-use Rattle.order.specs.Order.{operations, branches}
+use Rattle.order.specs.declared.Order.the-variants.{Word, Number, Store, Neg, Not, Jump, Skip, Branch, Send, Stop}
+use Rattle.order.specs.Order.{operand, operations, branches}
 
 abbrev pub operationNumber : Operation → ℕ
 operationNumber Load = 0
@@ -42,6 +42,7 @@ number (Branch r a) = branchNumber r
 number (Store w) = 11
 number (Word f w) = 12 + operationNumber f
 number (Number f n) = 24 + operationNumber f
+number (Skip a) = 36
 
 -- the orders that have these numbers, with the operand v
 unfoldable pub shapes : List (ℕ → Order)
@@ -55,17 +56,19 @@ shapes =
     ++ Store
     ∷ map (λ f v. Word f v) operations
     ++ map (λ f v. Number f v) operations
+    ++ Skip
+    ∷ []
 
 unfoldable pub orderOf : ℕ → ℕ → Order
 orderOf k v = getD shapes k (λ v. Stop) v
 
--- the orders that two arrays hold: their numbers and their operands
-unfoldable pub ordersOf : List ℕ → List ℕ → List Order
-ordersOf [] vs = []
-ordersOf (k ∷ ks) [] = orderOf k 0 ∷ ordersOf ks []
-ordersOf (k ∷ ks) (v ∷ vs) = orderOf k v ∷ ordersOf ks vs
+-- an order as one number: that of its shape, times 2^32, and its operand
+abbrev pub orderWord : Order → ℕ
+orderWord o = number o * 4294967296 + operand o
 
--- the n orders from place k on that two arrays hold; STOP where an array has ended
-unfoldable pub ordersFrom : ℕ → ℕ → List ℕ → List ℕ → List Order
-ordersFrom k zero ks vs = []
-ordersFrom k (suc n) ks vs = orderOf (getD ks k 0) (getD vs k 0) ∷ ordersFrom (suc k) n ks vs
+abbrev pub orderIn : ℕ → Order
+orderIn w = orderOf (w / 4294967296) (w % 4294967296)
+
+-- the orders that an array holds
+abbrev pub ordersIn : List ℕ → List Order
+ordersIn ws = map orderIn ws

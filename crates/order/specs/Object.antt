@@ -10,7 +10,7 @@ use Rattle.base.specs.Text.{bytes}
 use Rattle.base.specs.Front.{found, missing, onFront}
 use Rattle.text.specs.Pieces.{decimal, Front, fixed, numeral}
 use Rattle.order.specs.declared.Order.{Order}
-use Rattle.order.specs.declared.Order.the-variants.{Word, Number, Store, Neg, Not, Jump, Branch, Send, Stop}
+use Rattle.order.specs.declared.Order.the-variants.{Word, Number, Store, Neg, Not, Jump, Skip, Branch, Send, Stop}
 use Rattle.order.specs.Limits.{mostVariables, mostTemporaries, mostOrders}
 use Rattle.order.specs.Order.{name, kind, operand, table}
 
@@ -106,6 +106,7 @@ operandRefusal words n (Store w) = pick (ltb w 2) 23 (pick (ltb w words) 0 23)
 operandRefusal words n Neg = 0
 operandRefusal words n Not = 0
 operandRefusal words n (Jump a) = pick (ltb a n) 0 24
+operandRefusal words n (Skip a) = pick (ltb a n) 0 24
 operandRefusal words n (Branch r a) = pick (ltb a n) 0 24
 operandRefusal words n Send = 0
 operandRefusal words n Stop = 0
@@ -117,6 +118,7 @@ isStop (Store w) = false
 isStop Neg = false
 isStop Not = false
 isStop (Jump a) = false
+isStop (Skip a) = false
 isStop (Branch r a) = false
 isStop Send = false
 isStop Stop = true

@@ -8,7 +8,7 @@ use Rattle.word.specs.declared.Relation.the-variants.{Equal, Unequal, Less, AtM
 use Rattle.order.specs.declared.Operation.{Operation}
 use Rattle.order.specs.declared.Operation.the-variants.{Load, Add, Sub, Mlt, Div, Exp, Shl, Shr, And, Or, Xor, Cmp}
 use Rattle.order.specs.declared.Order.{Order}
-use Rattle.order.specs.declared.Order.the-variants.{Word, Number, Store, Neg, Not, Jump, Branch, Send, Stop}
+use Rattle.order.specs.declared.Order.the-variants.{Word, Number, Store, Neg, Not, Jump, Skip, Branch, Send, Stop}
 
 -- ---- the table of orders: names and kinds
 
@@ -43,6 +43,7 @@ name (Store w) = "STR"
 name Neg = "NEG"
 name Not = "NOT"
 name (Jump a) = "JMP"
+name (Skip a) = "SKIP"
 name (Branch r a) = branchName r
 name Send = "SEND"
 name Stop = "STOP"
@@ -55,6 +56,7 @@ kind (Store w) = "D"
 kind Neg = "-"
 kind Not = "-"
 kind (Jump a) = "A"
+kind (Skip a) = "A"
 kind (Branch r a) = "A"
 kind Send = "-"
 kind Stop = "-"
@@ -67,6 +69,7 @@ operand (Store w) = w
 operand Neg = 0
 operand Not = 0
 operand (Jump a) = a
+operand (Skip a) = a
 operand (Branch r a) = a
 operand Send = 0
 operand Stop = 0
@@ -81,7 +84,7 @@ operations = Load ∷ Add ∷ Sub ∷ Mlt ∷ Div ∷ Exp ∷ Shl ∷ Shr ∷ An
 abbrev pub branches : List Relation
 branches = Equal ∷ Unequal ∷ Less ∷ AtMost ∷ Greater ∷ AtLeast ∷ []
 
--- STR is of kind D, JMP and the branches of kind A, NEG, NOT, SEND and STOP of kind -, whose number is 0. Each line's name
+-- STR is of kind D, JMP, SKIP and the branches of kind A, NEG, NOT, SEND and STOP of kind -, whose number is 0. Each line's name
 -- and kind stand once, so their order decides nothing
 unfoldable pub table : List (ℕ → Order)
 table =
@@ -91,6 +94,7 @@ table =
     ∷ (λ n. Neg)
     ∷ (λ n. Not)
     ∷ Jump
+    ∷ Skip
     ∷ map (λ r n. Branch r n) branches
     ++ (λ n. Send)
     ∷ (λ n. Stop)

@@ -33,6 +33,7 @@ pub enum Order {
     Neg,
     Not,
     Jump(u32),
+    Skip(u32),
     Branch(Relation, u32),
     Send,
     Stop,

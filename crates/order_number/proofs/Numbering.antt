@@ -1,17 +1,18 @@
 -- Orders and operations by their numbers.
 use Prim.Native.Nat.{ℕ, _+_, _-_, _<_, _≤_}
-use mathlib.Core.Path.{_≡_, sym, ap, _∙_}
-use mathlib.Core.List.{_++_, map}
+use mathlib.Core.Path.{_≡_, refl, sym, ap, _∙_}
+use mathlib.Core.List.{map}
 use native.Mathlib.Omega.{arith}
-use lib.ListN.{getD, take, List·getD-eq-default, List·getD-append}
-use lib.Seq.{getD-append-add, getD-take}
-use Rattle.base.proofs.Lists.{getD-map-inside}
+use lib.ListN.{getD, take, drop, List·getD-eq-default}
+use lib.Seq.{getD-take}
+use Rattle.base.proofs.Lists.{getD-map-inside, among}
 use Rattle.order.specs.declared.Operation.{Operation}
 use Rattle.order.specs.declared.Operation.the-variants.{Cmp}
 use Rattle.order.specs.declared.Order.{Order}
-use Rattle.order.specs.declared.Order.the-variants.{Word, Number, Stop}
+use Rattle.order.specs.declared.Order.the-variants.{Word, Number, Skip, Stop}
 use Rattle.order.specs.Order.{operations}
 use Rattle.order.specs.Memory.{shapes, orderOf}
+use Rattle.order.proofs.Numbers.{no-order}
 use Rattle.order_number.specs.Internal.{plainOrder}
 
 -- no order below 12 has a number that is 12 or more
@@ -36,8 +37,7 @@ order-word k v h =
     ap
     (λ f. f v)
     (sym
-    (getD-append-add (take 12 shapes) (map on-word operations ++ map on-number operations) k (λ v. Stop)
-    ∙ List·getD-append (map on-word operations) (map on-number operations) (λ v. Stop) k h
+    (among (take 12 shapes) (map on-word operations) (drop 24 shapes) k (λ v. Stop) h
     ∙ getD-map-inside on-word operations k (λ v. Stop) Cmp h))
 
 order-number : (k v : ℕ) → k < 12 → Number (getD operations k Cmp) v ≡ orderOf (24 + k) v
@@ -46,7 +46,7 @@ order-number k v h =
     ap
     (λ f. f v)
     (sym
-    (getD-append-add (take 24 shapes) (map on-number operations) k (λ v. Stop)
+    (among (take 24 shapes) (map on-number operations) (drop 36 shapes) k (λ v. Stop) h
     ∙ getD-map-inside on-number operations k (λ v. Stop) Cmp h))
 
 pub word-again : (k v : ℕ) → 12 ≤ k → k < 24 → Word (getD operations (k - 12) Cmp) v ≡ orderOf k v
@@ -58,3 +58,11 @@ pub number-again : (k v : ℕ) → 24 ≤ k → k < 36 → Number (getD operatio
 number-again k v g h =
     let e : 24 + (k - 24) ≡ k = omega arith in
     order-number (k - 24) v (omega arith) ∙ ap (λ n. orderOf n v) e
+
+pub skip-again : (k v : ℕ) → k ≡ 36 → Skip v ≡ orderOf k v
+unfolding shapes orderOf
+skip-again k v e = rw e refl
+
+-- past SKIP there is none
+pub past-skip : (k v : ℕ) → 36 ≤ k → (k ≡ 36 → ⊥) → Stop ≡ orderOf k v
+past-skip k v h g = no-order k v (omega (arith, h, g))

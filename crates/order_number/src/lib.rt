@@ -1,12 +1,12 @@
-// The number of an order in memory, and back: `number` and `orderOf` of specs/Order.antt.
+// Orders in memory: the number of an order's shape, and the order as one number, both ways, as order's specs/Memory.antt has them.
 use order::Operation;
 use order::Order;
 use word::Relation;
 ghost use mathlib.Core.Path.{_≡_};
-ghost use Prim.Native.Nat.{_<_};
-ghost use lib.ListN.{getD};
+ghost use Prim.Native.Nat.{_<_, _+_, _*_};
+ghost use lib.ListN.{getD, set};
 ghost use Rattle.order.specs.Order.{operand, operations};
-ghost use Rattle.order.specs.Memory.{operationNumber, branchNumber, number, orderOf};
+ghost use Rattle.order.specs.Memory.{operationNumber, branchNumber, number, orderOf, orderWord, orderIn};
 ghost use Rattle.order.specs.declared.Operation.the-variants.{Cmp};
 ghost use Rattle.order_number.specs.Internal.{plainOrder};
 
@@ -54,6 +54,7 @@ pub fn number_of(o: Order) -> u8
         Order::Neg => 2,
         Order::Not => 3,
         Order::Jump(_) => 4,
+        Order::Skip(_) => 36,
         Order::Branch(s, _) => branch_number(s),
         Order::Send => 1,
         Order::Stop => 0,
@@ -71,6 +72,7 @@ pub fn operand_of(o: Order) -> u32
         Order::Neg => 0,
         Order::Not => 0,
         Order::Jump(a) => a,
+        Order::Skip(a) => a,
         Order::Branch(_, a) => a,
         Order::Send => 0,
         Order::Stop => 0,
@@ -131,5 +133,41 @@ pub fn order_of(k: u8, v: u32) -> Order
     if k < 36 {
         return Order::Number(operation(k - 24), v);
     }
+    if k == 36 {
+        return Order::Skip(v);
+    }
     Order::Stop
+}
+
+fn packed(k: u8, v: u32) -> u64
+    ensures { λ r. ⌜ r ≡ k * 4294967296 + v ⌝ }
+{
+    k as u64 * 4294967296 + v as u64
+}
+
+// An order as one number.
+pub fn order_word(o: Order) -> u64
+    ensures { λ r. ⌜ r ≡ orderWord o ⌝ }
+{
+    packed(number_of(o), operand_of(o))
+}
+
+// The order that a number stands for; STOP where it stands for none.
+pub fn order_in(w: u64) -> Order
+    ensures { λ r. ⌜ r ≡ orderIn w ⌝ }
+{
+    let k = w / 4294967296;
+    if 37 <= k {
+        return Order::Stop;
+    }
+    order_of(k as u8, (w % 4294967296) as u32)
+}
+
+// Stores an order in an array of orders, where it has room.
+pub fn put_order(orders: &mut [u64], i: usize, o: Order)
+    ensures { λ _. ⌜ now (orders .exit) ≡ set (now (orders .entry)) i (orderWord o) ⌝ }
+{
+    if i < orders.len() {
+        orders[i] = order_word(o);
+    }
 }

@@ -23,10 +23,10 @@ use Rattle.order_record.specs.Internal.{headingAt, numberAfter, Likely}
 -- ---- the number that `likely` gives: by the sum of three letters, and by the kind
 
 abbrev letters : List ℕ
-letters = bytes "@@Q@@EP@GFR@@@@@SJ@@@@W@C@@@D@@@I@@@@@@@N@@@@@MUKL@@A@O@@HVB@@T@"
+letters = bytes "@@Q@@EP@GFR@@@@@SJ@@@@W@C@@@D@@dI@@@@@@@N@@@@@MUKL@@A@O@@HVB@@T@"
 
 abbrev named : ℕ → ℕ → ℕ → ℕ
-named a b c = getD letters ((10 * a + 8 * b + c) % 64) 0 % 32
+named a b c = getD letters ((10 * a + 8 * b + c) % 64) 0 % 64
 
 abbrev kinded : List ℕ → ℕ → ℕ
 kinded l k = pick (eqb (getD l (length (heading (orderOf k 0)) - 2) 0) 75) (k + 12) k
@@ -35,13 +35,13 @@ abbrev guessed : List ℕ → ℕ
 guessed l = kinded l (named (getD l 0 0) (getD l 1 0) (getD l 2 0))
 
 -- that of each order where its name and kind stand, whatever text is behind them
-all-guessed : (l : List ℕ) → each (λ k. guessed (take 7 (heading (orderOf k 0) ++ l))) 0 36 ≡ each (λ k. k) 0 36
+all-guessed : (l : List ℕ) → each (λ k. guessed (take 7 (heading (orderOf k 0) ++ l))) 0 37 ≡ each (λ k. k) 0 37
 unfolding each bytes orderOf shapes pick
 all-guessed l = refl
 
 guessed-likely : (front : List ℕ) → Likely front (guessed front)
 guessed-likely front j l h e =
-    rw e (each-at (λ k. guessed (take 7 (heading (orderOf k 0) ++ l))) (λ k. k) 36 (all-guessed l) j h)
+    rw e (each-at (λ k. guessed (take 7 (heading (orderOf k 0) ++ l))) (λ k. k) 37 (all-guessed l) j h)
 
 module _ (front : List ℕ) (a b c n d : ℕ) (p : a ≡ getD front 0 0) (q : b ≡ getD front 1 0) (r : c ≡ getD front 2 0)
     (m : n ≡ length (heading (orderOf (named a b c) 0))) (k : d ≡ getD front (n - 2) 0) where
@@ -57,7 +57,7 @@ module _ (front : List ℕ) (a b c n d : ℕ) (p : a ≡ getD front 0 0) (q : b 
 
 pub heading-here : (k : ℕ) (l l₁ x : List ℕ) → headingAt k l ≡ found x l₁ → recordAt l ≡ numberAfter k l₁
 heading-here k l l₁ x e =
-    let f = let-through (ltb k 36) (fixed (heading (orderOf k 0)) l) e in
+    let f = let-through (ltb k 37) (fixed (heading (orderOf k 0)) l) e in
     rw (front-fixed (heading (orderOf k 0)) l l₁ x (f .1)) (heading-read k l₁)
 
 pub no-heading : (k : ℕ) (l : List ℕ) → Likely (take 7 l) k → headingAt k l ≡ missing → recordAt l ≡ missing
@@ -67,5 +67,5 @@ no-heading k l likely e =
     (λ o rest r. let front = read-heading o l rest r in
     let told : k ≡ number o = likely (number o) (decimal (operand o) ++ 10 ∷ rest) (number-below o) (ap (take 7) front) in
     let stands = fixed-front (heading (orderOf (number o) 0)) (decimal (operand o) ++ 10 ∷ rest) in
-    never (sym (rw (told, lt-ltb (number o) 36 (number-below o), front, stands) at e)))
+    never (sym (rw (told, lt-ltb (number o) 37 (number-below o), front, stands) at e)))
     (λ r. r)

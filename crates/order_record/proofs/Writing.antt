@@ -1,6 +1,6 @@
 -- The names and kinds of the orders, as the table has them, and the records that are written with them.
 use Prim.Native.Nat.{ℕ, _+_, _*_, _%_, _<_, _≤_}
-use mathlib.Core.Path.{_≡_, refl, sym}
+use mathlib.Core.Path.{_≡_, refl, sym, ap, _∙_}
 use mathlib.Core.Bool.{Bool, true}
 use mathlib.Core.List.{List, map}
 use native.Mathlib.Omega.{arith}
@@ -15,10 +15,12 @@ use Rattle.base.proofs.Places.{each-at}
 use Rattle.text.specs.Pieces.{decimal, Front, fixed}
 use Rattle.text.specs.Internal.{Placed, putByte, putAll}
 use Rattle.text.proofs.Writing.{putAll-append}
+use Rattle.order.specs.declared.Order.{Order}
 use Rattle.order.specs.declared.Order.the-variants.{Stop}
 use Rattle.order.specs.Order.{operand}
-use Rattle.order.specs.Memory.{shapes, orderOf}
+use Rattle.order.specs.Memory.{number, shapes, orderOf}
 use Rattle.order.specs.Object.{heading, recordText}
+use Rattle.order.proofs.Numbers.{order-again}
 use Rattle.order.proofs.Records.{heading-at}
 use Rattle.order_record.specs.Internal.{headingAt}
 
@@ -26,14 +28,14 @@ use Rattle.order_record.specs.Internal.{headingAt}
 
 -- the length of each, by its digit; and that it is 2 to 7
 abbrev digits : List ℕ
-digits = bytes "776665666666766666666566766666666566"
+digits = bytes "7766656666667666666665667666666665667"
 
-all-lengths : each (λ k. getD digits k 0 % 16) 0 36 ≡ each (λ k. length (heading (orderOf k 0))) 0 36
+all-lengths : each (λ k. getD digits k 0 % 16) 0 37 ≡ each (λ k. length (heading (orderOf k 0))) 0 37
 unfolding each bytes orderOf shapes
 all-lengths = refl
 
-pub heading-length : (k : ℕ) → k < 36 → getD digits k 0 % 16 ≡ length (heading (orderOf k 0))
-heading-length = each-at (λ k. getD digits k 0 % 16) (λ k. length (heading (orderOf k 0))) 36 all-lengths
+pub heading-length : (k : ℕ) → k < 37 → getD digits k 0 % 16 ≡ length (heading (orderOf k 0))
+heading-length = each-at (λ k. getD digits k 0 % 16) (λ k. length (heading (orderOf k 0))) 37 all-lengths
 
 module _ (k : ℕ) where
   -- a test of its length, as computed over all of them
@@ -52,28 +54,31 @@ module _ (k : ℕ) where
 
 -- each stands in its row of seven bytes, as computed over a table of such rows
 abbrev pub InRows : List ℕ → Type 0
-InRows table = each (λ k. take (length (heading (orderOf k 0))) (drop (7 * k) table)) 0 36 ≡ each (λ k. heading (orderOf k 0)) 0 36
+InRows table = each (λ k. take (length (heading (orderOf k 0))) (drop (7 * k) table)) 0 37 ≡ each (λ k. heading (orderOf k 0)) 0 37
 
 module _ (table : List ℕ) (all : InRows table) (k n : ℕ) (row : List ℕ) (e : row ≡ take n (drop (7 * k) table)) where
-  row-heading : k < 36 → n ≡ length (heading (orderOf k 0)) → row ≡ heading (orderOf k 0)
+  row-heading : k < 37 → n ≡ length (heading (orderOf k 0)) → row ≡ heading (orderOf k 0)
   row-heading h f =
       rw (e, f)
-      (each-at (λ j. take (length (heading (orderOf j 0))) (drop (7 * j) table)) (λ j. heading (orderOf j 0)) 36 all k h)
+      (each-at (λ j. take (length (heading (orderOf j 0))) (drop (7 * j) table)) (λ j. heading (orderOf j 0)) 37 all k h)
 
-  pub row-read : (l : List ℕ) (r : Front (List ℕ)) → k < 36 → n ≡ length (heading (orderOf k 0)) → r ≡ fixed row l → r ≡ headingAt k l
+  pub row-read : (l : List ℕ) (r : Front (List ℕ)) → k < 37 → n ≡ length (heading (orderOf k 0)) → r ≡ fixed row l → r ≡ headingAt k l
   unfolding pick
-  row-read l r h f g = rw (lt-ltb k 36 h, ← row-heading h f) g
+  row-read l r h f g = rw (lt-ltb k 37 h, ← row-heading h f) g
 
-  pub row-put : (p q : Placed) → k < 36 → n ≡ length (heading (orderOf k 0)) → q ≡ putAll row p → q ≡ putAll (heading (orderOf k 0)) p
+  pub row-put : (p q : Placed) → k < 37 → n ≡ length (heading (orderOf k 0)) → q ≡ putAll row p → q ≡ putAll (heading (orderOf k 0)) p
   row-put p q h f g = rw (← row-heading h f) g
 
 -- ---- a record
 
-module _ (k v : ℕ) where
-  pub put-parts :
-      (p : Placed) → putByte 10 (putAll (decimal (operand (orderOf k v))) (putAll (heading (orderOf k 0)) p)) ≡ putAll (recordText (orderOf k v)) p
-  unfolding putAll
-  put-parts p = rw (← heading-at k v) (sym (simp putAll-append))
+module _ (o : Order) where
+  -- its name and kind, by its number
+  numbered : heading (orderOf (number o) 0) ≡ heading o
+  numbered = sym (heading-at (number o) (operand o)) ∙ ap heading (order-again o)
 
-  pub record-length : length (recordText (orderOf k v)) ≡ length (heading (orderOf k 0)) + length (decimal (operand (orderOf k v))) + 1
-  record-length = rw (← heading-at k v) (simp length-append)
+  pub put-parts : (p : Placed) → putByte 10 (putAll (decimal (operand o)) (putAll (heading (orderOf (number o) 0)) p)) ≡ putAll (recordText o) p
+  unfolding putAll
+  put-parts p = rw numbered (sym (simp putAll-append))
+
+  pub record-length : length (recordText o) ≡ length (heading (orderOf (number o) 0)) + length (decimal (operand o)) + 1
+  record-length = rw numbered (simp length-append)

@@ -20,7 +20,7 @@ orderFound s NoRecord = missing
 
 -- the name and kind of the order with the number k, if there is one
 abbrev pub headingAt : ℕ → List ℕ → Front (List ℕ)
-headingAt k l = pick (ltb k 36) (fixed (heading (orderOf k 0)) l) missing
+headingAt k l = pick (ltb k 37) (fixed (heading (orderOf k 0)) l) missing
 
 -- the number of a record behind the heading of the order with the number k
 abbrev pub numberAfter : ℕ → List ℕ → Front Order
@@ -28,4 +28,4 @@ numberAfter k l = onFront (numeral 10 l) (λ v l₁. pick (eqb (operand (orderOf
 
 -- the order with the number k is the only one that may stand at the front of a text, of which the first seven bytes are given
 abbrev pub Likely : List ℕ → ℕ → Type 0
-Likely front k = (j : ℕ) (l : List ℕ) → j < 36 → front ≡ take 7 (heading (orderOf j 0) ++ l) → k ≡ j
+Likely front k = (j : ℕ) (l : List ℕ) → j < 37 → front ≡ take 7 (heading (orderOf j 0) ++ l) → k ≡ j

@@ -1,6 +1,7 @@
 // The record of an order in object text: read at a place, and written.
 use base::part;
 use order::Order;
+use order_number::number_of;
 use order_number::operand_of;
 use order_number::order_of;
 use text::read::Numeral;
@@ -27,26 +28,26 @@ pub enum Record {
 
 // The names and kinds of the orders, each with the tab behind it, by the numbers of the orders: seven bytes each, a shorter
 // one with spaces behind it.
-const HEADINGS: [u8; 252] = *b"STOP\t-\tSEND\t-\tNEG\t-\t NOT\t-\t JMP\tA\t BE\tA\t  \
+const HEADINGS: [u8; 259] = *b"STOP\t-\tSEND\t-\tNEG\t-\t NOT\t-\t JMP\tA\t BE\tA\t  \
     BNE\tA\t BLT\tA\t BLE\tA\t BGT\tA\t BGE\tA\t STR\tD\t \
     LOAD\tD\tADD\tD\t SUB\tD\t MLT\tD\t DIV\tD\t EXP\tD\t \
     SHL\tD\t SHR\tD\t AND\tD\t OR\tD\t  XOR\tD\t CMP\tD\t \
     LOAD\tK\tADD\tK\t SUB\tK\t MLT\tK\t DIV\tK\t EXP\tK\t \
-    SHL\tK\t SHR\tK\t AND\tK\t OR\tK\t  XOR\tK\t CMP\tK\t ";
+    SHL\tK\t SHR\tK\t AND\tK\t OR\tK\t  XOR\tK\t CMP\tK\t SKIP\tA\t";
 
 // Their lengths, as digits.
-const HEADING_LENGTHS: [u8; 36] = *b"776665666666766666666566766666666566";
+const HEADING_LENGTHS: [u8; 37] = *b"7766656666667666666665667666666665667";
 
-// The number of an order by a sum of its first three letters, as the letter with that number, @ for 0. Orders with a word stand
+// The number of an order by a sum of its first three letters, as the character whose code is 64 more. Orders with a word stand
 // for those with a number too.
-const LIKELY: [u8; 64] = *b"@@Q@@EP@GFR@@@@@SJ@@@@W@C@@@D@@@I@@@@@@@N@@@@@MUKL@@A@O@@HVB@@T@";
+const LIKELY: [u8; 64] = *b"@@Q@@EP@GFR@@@@@SJ@@@@W@C@@@D@@dI@@@@@@@N@@@@@MUKL@@A@O@@HVB@@T@";
 
 // The length of a heading, that of STOP where no order has the number.
 fn heading_length(k: u8) -> usize
     ensures exact { λ r. ⌜ r ≡ length (heading (orderOf k 0)) ⌝ }
     ensures few { λ r. ⌜ r ≤ 7 ⌝ }
 {
-    if k < 36 {
+    if k < 37 {
         return (HEADING_LENGTHS[k as usize] % 16) as usize;
     }
     7
@@ -56,7 +57,7 @@ fn heading_length(k: u8) -> usize
 fn heading_at(s: &[u8], at: usize, k: u8) -> Place
     ensures { λ r. ⌜ behind (now (s .entry)) r ≡ headingAt k (drop at (now (s .entry))) ⌝ }
 {
-    if k < 36 {
+    if k < 37 {
         return fixed_at(s, at, part(&HEADINGS, 7 * k as usize, heading_length(k)));
     }
     Place::Missing
@@ -66,7 +67,7 @@ fn heading_at(s: &[u8], at: usize, k: u8) -> Place
 fn put_heading(buffer: &mut [u8], at: usize, k: u8) -> usize
     ensures { λ r. ⌜ placed r (now (buffer .exit)) ≡ putAll (heading (orderOf k 0)) (placed at (now (buffer .entry))) ⌝ }
 {
-    if k < 36 {
+    if k < 37 {
         return put_fixed(
             buffer,
             at,
@@ -100,7 +101,7 @@ fn likely(s: &[u8]) -> u8
     let a = base::byte_at(s, 0) as usize;
     let b = base::byte_at(s, 1) as usize;
     let c = base::byte_at(s, 2) as usize;
-    let k = LIKELY[(10 * a + 8 * b + c) % 64] % 32;
+    let k = LIKELY[(10 * a + 8 * b + c) % 64] % 64;
     if base::byte_at(s, heading_length(k) - 2) == 75 {
         return k + 12;
     }
@@ -118,19 +119,19 @@ pub fn record_at(s: &[u8], at: usize) -> Record
     }
 }
 
-// The record of the order with the number k and the operand v.
-pub fn put_record(buffer: &mut [u8], at: usize, k: u8, v: u32) -> usize
-    ensures { λ r. ⌜ placed r (now (buffer .exit)) ≡ putAll (recordText (orderOf k v)) (placed at (now (buffer .entry))) ⌝ }
+// The record of an order.
+pub fn put_record(buffer: &mut [u8], at: usize, o: Order) -> usize
+    ensures { λ r. ⌜ placed r (now (buffer .exit)) ≡ putAll (recordText o) (placed at (now (buffer .entry))) ⌝ }
 {
-    let i = put_heading(buffer, at, k);
-    let j = put_decimal(buffer, i, operand_of(order_of(k, v)));
+    let i = put_heading(buffer, at, number_of(o));
+    let j = put_decimal(buffer, i, operand_of(o));
     put_byte(buffer, j, 10)
 }
 
 // The length of a record, with a bound by which no sum of lengths overflows.
-pub fn record_length(k: u8, v: u32) -> usize
-    ensures exact { λ r. ⌜ r ≡ length (recordText (orderOf k v)) ⌝ }
+pub fn record_length(o: Order) -> usize
+    ensures exact { λ r. ⌜ r ≡ length (recordText o) ⌝ }
     ensures few { λ r. ⌜ r ≤ 18 ⌝ }
 {
-    heading_length(k) + decimal_length(operand_of(order_of(k, v))) + 1
+    heading_length(number_of(o)) + decimal_length(operand_of(o)) + 1
 }

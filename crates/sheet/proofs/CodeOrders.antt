@@ -1,22 +1,16 @@
--- The orders of an expression: which there are, with t temporaries at most, and that an expression's orders are cut off
--- from what is behind them.
+-- The orders of expressions and comparisons: which there are, with t temporaries at most.
 use Prim.Native.Nat.{ℕ, suc, _+_, _≤_, _<_}
-use mathlib.Core.Path.{_≡_, refl}
-use mathlib.Core.Bool.{true}
-use mathlib.Core.List.{List, [], _∷_, _++_, reverseAux}
+use mathlib.Core.List.{List, _∷_, _++_}
 use native.Mathlib.Omega.{arith}
-use borrow.Author.Tests.{le-leb}
 use lib.ListN.{length, length-append}
-use Rattle.base.specs.Choice.{pick}
 use Rattle.order.specs.declared.Operation.{Operation}
 use Rattle.order.specs.declared.Operation.the-variants.{Cmp}
 use Rattle.order.specs.declared.Order.{Order}
-use Rattle.order.specs.declared.Order.the-variants.{Word, Number, Store, Neg, Not, Jump, Branch, Send, Stop}
+use Rattle.order.specs.declared.Order.the-variants.{Word, Number, Store, Neg, Not, Jump, Skip, Branch, Send, Stop}
 use Rattle.sheet.specs.Sheet.{Expression, word, constant, negated, inverted, binary, workedOut, operand}
-use Rattle.sheet.specs.Translation.{joined, code, operation, temporary, joinedTemporaries, temporaries}
-use Rattle.sheet.specs.Translation.{comparisonCode, comparisonTemporaries}
-use Rattle.sheet.specs.Within.{Expressed}
-use Rattle.sheet.specs.ReadBack.{inExpression, cutFrom}
+use Rattle.sheet.specs.Orders.{operation, temporary, joined, code, comparisonCode}
+use Rattle.sheet.specs.Orders.{joinedTemporaries, temporaries, comparisonTemporaries}
+use Rattle.sheet.specs.Formed.{Expressed}
 use Rattle.sheet.proofs.Each.{Each, each-append, each-map}
 
 -- an order of an expression, whose words are variables and the first t temporaries
@@ -27,6 +21,7 @@ OfExpression v t (Store w) = (v + 2 ≤ w) × (w < v + 2 + t)
 OfExpression v t Neg = Unit {0}
 OfExpression v t Not = Unit {0}
 OfExpression v t (Jump a) = ⊥
+OfExpression v t (Skip a) = ⊥
 OfExpression v t (Branch r a) = ⊥
 OfExpression v t Send = ⊥
 OfExpression v t Stop = ⊥
@@ -38,6 +33,7 @@ more-temporaries v t u h (Store w) p = (p .0, omega arith)
 more-temporaries v t u h Neg p = p
 more-temporaries v t u h Not p = p
 more-temporaries v t u h (Jump a) p = p
+more-temporaries v t u h (Skip a) p = p
 more-temporaries v t u h (Branch r a) p = p
 more-temporaries v t u h Send p = p
 more-temporaries v t u h Stop p = p
@@ -123,23 +119,5 @@ code-some v d (negated e) = simp length-append (omega arith)
 code-some v d (inverted e) = simp length-append (omega arith)
 code-some v d (binary o l r) = joined-some (operation o) v d r (code v d l) (code v (suc d) r)
 
--- ---- the cut behind them
-
-goes-on : (v t : ℕ) (o : Order) → OfExpression v t o → inExpression v o ≡ true
-goes-on v t (Word f w) p = refl
-goes-on v t (Number f n) p = refl
-goes-on v t (Store w) p = le-leb (v + 2) w (p .0)
-goes-on v t Neg p = refl
-goes-on v t Not p = refl
-goes-on v t (Jump a) p = absurd p
-goes-on v t (Branch r a) p = absurd p
-goes-on v t Send p = absurd p
-goes-on v t Stop p = absurd p
-
-pub cut-behind :
-    (v t : ℕ) (os back l : List Order)
-    → Each (OfExpression v t) os
-    → cutFrom v back (os ++ l) ≡ cutFrom v (reverseAux os back) l
-unfolding cutFrom pick
-cut-behind v t [] back l h = refl
-cut-behind v t (o ∷ os) back l h = rw (goes-on v t o (h .0)) (cut-behind v t os (o ∷ back) l (h .1))
+pub comparison-some : (v : ℕ) (a b : Expression) → 1 ≤ length (comparisonCode v a b)
+comparison-some v a b = joined-some Cmp v 0 b (code v 0 a) (code v 1 b)

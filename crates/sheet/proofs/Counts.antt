@@ -6,44 +6,49 @@ use native.Mathlib.Omega.{arith}
 use borrow.Author.Tests.{eq-eqb, ne-eqb}
 use Rattle.base.specs.Choice.{pick}
 use Rattle.base.proofs.Cases.{by-equal}
-use Rattle.sheet.specs.Sheet.{Instruction, Sheet, sheet}
-use Rattle.sheet.specs.Meaning.{Counted, gives, faults, Next, onward, at, doInstruction, Progress, moved, stopped, instructionAt, further, after, Adds}
-use Rattle.sheet.proofs.Values.{Some, some-instruction}
+use Rattle.sheet.specs.Sheet.{Sheet, sheet}
+use Rattle.sheet.specs.Worth.{Counted, gives, faults, Next, onward, at}
+use Rattle.sheet.specs.Meaning.{Move, view, doMove, Progress, moved, stopped, moveAt, further, after, Adds}
+use Rattle.sheet.proofs.Values.{Some, some-move}
 
 moved-adds : (p : Progress) (x : Counted Next) → Some x → Adds p (moved p x)
 moved-adds p (gives (onward m) k) h = record { orders = k; some = h; sum = refl }
 moved-adds p (gives (at s m) k) h = record { orders = k; some = h; sum = refl }
 moved-adds p (faults n k) h = record { orders = k; some = h; sum = refl }
 
-either-adds : (p : Progress) (f : Instruction → Progress) (end : Progress) (s : ℕ) (is : List Instruction) → ((i : Instruction) → Adds p (f i)) → Adds p end → Adds p (instructionAt s is f end)
-unfolding instructionAt
-either-adds p f end s [] on last = last
-either-adds p f end zero (i ∷ is) on last = last
-either-adds p f end (suc zero) (i ∷ is) on last = on i
-either-adds p f end (suc (suc s)) (i ∷ is) on last = either-adds p f end (suc s) is on last
+either-adds :
+    (p : Progress) (f : Move → Progress) (stop : Progress) (s : ℕ) (l : List Move)
+    → ((m : Move) → Adds p (f m))
+    → Adds p stop
+    → Adds p (moveAt s l f stop)
+unfolding moveAt
+either-adds p f stop zero l on last = last
+either-adds p f stop (suc s) [] on last = last
+either-adds p f stop (suc zero) (m ∷ l) on last = on m
+either-adds p f stop (suc (suc s)) (m ∷ l) on last = either-adds p f stop (suc s) l on last
 
-further-adds : (room : ℕ) (is : List Instruction) (p : Progress) → p .ending ≡ 0 → Adds p (further room is p)
+further-adds : (room : ℕ) (l : List Move) (p : Progress) → p .ending ≡ 0 → Adds p (further room l p)
 unfolding further pick
-further-adds room is p yet =
+further-adds room l p yet =
     rw (eq-eqb (p .ending) 0 yet)
     (either-adds
     p
-    (λ i. moved p (doInstruction room (p .store) i))
+    (λ m. moved p (doMove room (p .store) m))
     (stopped p)
     (p .next)
-    is
-    (λ i. moved-adds p (doInstruction room (p .store) i) (some-instruction room (p .store) i))
+    l
+    (λ m. moved-adds p (doMove room (p .store) m) (some-move room (p .store) m))
     (record { orders = 1; some = omega arith; sum = refl }))
 
 -- "It counts, for each instruction done, the orders of the path it takes, STOP too"
 pub each-counts : (s : Sheet) (room k : ℕ) → after k room s .ending ≡ 0 → Adds (after k room s) (after (suc k) room s)
 unfolding after
-each-counts (sheet v is) room k yet = further-adds room is (after k room (sheet v is)) yet
+each-counts (sheet v x) room k yet = further-adds room (view x) (after k room (sheet v x)) yet
 
 -- what has ended counts no more
 pub ended-counts : (s : Sheet) (room k : ℕ) → (after k room s .ending ≡ 0 → ⊥) → after (suc k) room s ≡ after k room s
 unfolding after further pick
-ended-counts (sheet v is) room k ended = rw (ne-eqb (after k room (sheet v is) .ending) 0 ended) refl
+ended-counts (sheet v x) room k ended = rw (ne-eqb (after k room (sheet v x) .ending) 0 ended) refl
 
 -- the count of k instructions done is k at least
 pub count-at-least : (s : Sheet) (room k : ℕ) → after k room s .ending ≡ 0 → k ≤ after k room s .count

@@ -1,10 +1,11 @@
--- The orders of an instruction carried out do what the instruction does, with the same count and the same fault.
+-- The orders of an instruction that is no IF do what it does, and those of a comparison lead to where its answer leads, with the
+-- same count and the same fault.
 use Prim.Native.Nat.{ℕ, _+_, _*_, _/_, _<_, _≤_}
 use mathlib.Core.Path.{_≡_, refl, sym, ap, _∙_}
 use mathlib.Core.Bool.{Bool, true, false, not}
 use mathlib.Core.List.{List, [], _∷_, _++_, append-nil, append-assoc}
 use native.Mathlib.Omega.{arith}
-use native.Mathlib.Nat.{zero-add, add-assoc}
+use native.Mathlib.Nat.{zero-add}
 use lib.Dec.{ltb}
 use lib.ListN.{length, getD, set as put, length-set, length-append, List·getD-eq-default}
 use lib.Seq.{sets, length-sets, set-append-left, getD-set-same, getD-set-other}
@@ -20,12 +21,12 @@ use Rattle.order.specs.declared.Order.{Order}
 use Rattle.order.specs.declared.Order.the-variants.{Store as Str, Jump, Branch, Send, Stop}
 use Rattle.machine.specs.Machine.{Machine, machine, goTo, advance, done, failed, effect, wordBytes, send as sends}
 use Rattle.machine.specs.Frame.{Words}
-use Rattle.sheet.specs.Sheet.{Expression, Simple, set, send, goto, Instruction, simple, when, either, operand}
-use Rattle.sheet.specs.Translation.{code, simpleCode, comparisonCode, opposite, past, choice, closed, instructionCode, temporaries, simpleTemporaries, comparisonTemporaries, instructionTemporaries}
-use Rattle.sheet.specs.Within.{Expressed, Leads, SimpleFormed, InstructionFormed}
-use Rattle.sheet.specs.Meaning.{Counted, gives, faults, behind, andThen, both, worth, holds, Store, Next, onward, at, sending, doSimple, closing, doInstruction}
+use Rattle.sheet.specs.Sheet.{Expression, Simple, set, send, goto, operand}
+use Rattle.sheet.specs.Orders.{code, simpleCode, comparisonCode, opposite, temporaries, simpleTemporaries, comparisonTemporaries}
+use Rattle.sheet.specs.Formed.{Expressed, Leads, SimpleFormed}
+use Rattle.sheet.specs.Worth.{Counted, gives, faults, behind, andThen, both, worth, holds, Store, Next, onward, at, sending, doSimple}
 use Rattle.sheet.specs.Following.{sentBytes}
-use Rattle.sheet.proofs.Reach.{behind-last, here, Reaches, at-once, Stands, stands-first, stands-left, stands-right, stands-last, stands-rest, carried-out, not-carried-out}
+use Rattle.sheet.proofs.Reach.{behind-last, here, Reaches, at-once, Stands, stands-first, stands-left, stands-last, carried-out, not-carried-out}
 use Rattle.sheet.proofs.Values.{Small, small-worth, compared}
 use Rattle.sheet.proofs.Simulation.{Comes, lands, fails, comes-behind, comes-then, comes-each, Landed, landed, Lost, lost, works, joins, plain-operand}
 
@@ -220,7 +221,7 @@ module _ (os : List Order) (v t n : ℕ) (out : List ℕ) (to : ℕ → ℕ) whe
         (not-carried-out os b q (length (m .sent)) (m .words ++ us) (sets out 0 (sentBytes (m .sent))) Send 4 e (sends-none b q us h))
         (lost b q us long)))
 
-    does-simple :
+    pub does-simple :
         (u : Simple) (a p : ℕ) (ts : List ℕ)
         → SimpleFormed v n u
         → length ts ≡ t
@@ -324,29 +325,29 @@ module _ (os : List Order) (v t n : ℕ) (out : List ℕ) (to : ℕ → ℕ) whe
           (branch-or-not (relatedToZero r z) (relatedToZero (opposite r) z) z q d (length (m .sent)) (m .words ++ us) (sets out 0 (sentBytes (m .sent))) (opposite-holds r z 0))
 
       -- what follows from the answer: `more` where the relation holds, `less` where it does not
-      module _ (p : ℕ) (d e : ℕ) (more less : Counted Next) where
-        abbrev answered : Bool → Counted Next
+      module _ {A : Type 0} (p d : ℕ) (Land : A → Machine → Type 0) (more less : Counted A) where
+        abbrev answered : Bool → Counted A
         answered yes-so = pick yes-so more less
 
-        chooses :
+        pub chooses :
             (a : ℕ) (ts : List ℕ)
             → length ts ≡ t
             → comparisonTemporaries x y ≤ t
             → Stands os p (comparisonCode v x y)
             → getD os (p + length (comparisonCode v x y)) Stop ≡ Branch (opposite r) d
-            → ((z : ℕ) (us : List ℕ) → length us ≡ t → Does e (holding m z (p + length (comparisonCode v x y) + 1) us) more)
-            → ((z : ℕ) (us : List ℕ) → length us ≡ t → Does e (holding m z d us) less)
-            → Does e (holding m a p ts) (andThen (holds (m .words) r x y) answered)
+            → ((z : ℕ) (us : List ℕ) → length us ≡ t → Comes os Land Faulting (holding m z (p + length (comparisonCode v x y) + 1) us) more)
+            → ((z : ℕ) (us : List ℕ) → length us ≡ t → Comes os Land Faulting (holding m z d us) less)
+            → Comes os Land Faulting (holding m a p ts) (andThen (holds (m .words) r x y) answered)
         unfolding pick
         chooses a ts long room s branch on past-it =
             rw (compared (m .words) (sound .words-all) v r x y answered fx fy)
             (comes-then os (holding m a p ts) _ (λ z. behind 1 (answered (relatedToZero r z))) (compares a p ts long room s) on-answer)
           where
-            by-answer : (z : ℕ) (us : List ℕ) → length us ≡ t → (yes-so : Bool) → Does e (holding m z (pick yes-so (p + length (comparisonCode v x y) + 1) d) us) (answered yes-so)
+            by-answer : (z : ℕ) (us : List ℕ) → length us ≡ t → (yes-so : Bool) → Comes os Land Faulting (holding m z (pick yes-so (p + length (comparisonCode v x y) + 1) d) us) (answered yes-so)
             by-answer z us still true = on z us still
             by-answer z us still false = past-it z us still
 
-            on-answer : (z : ℕ) (k : Machine) → LandedAt (p + length (comparisonCode v x y)) ts z k → Does e k (behind 1 (answered (relatedToZero r z)))
+            on-answer : (z : ℕ) (k : Machine) → LandedAt (p + length (comparisonCode v x y)) ts z k → Comes os Land Faulting k (behind 1 (answered (relatedToZero r z)))
             on-answer z k (landed us still keeps) =
                 comes-behind
                 os
@@ -356,122 +357,3 @@ module _ (os : List Order) (v t n : ℕ) (out : List ℕ) (to : ℕ → ℕ) whe
                 (answered (relatedToZero r z))
                 (branches z (p + length (comparisonCode v x y)) d us branch)
                 (by-answer z us still (relatedToZero r z))
-
-    -- the first u of two, then the JMP that closes it, at order q
-    closes-first :
-        (u : Simple) (w : List Order) (a p : ℕ) (ts : List ℕ)
-        → SimpleFormed v n u
-        → length ts ≡ t
-        → simpleTemporaries u ≤ t
-        → Stands os p (closed p (simpleCode v to u) w)
-        → Does (past (p + length (simpleCode v to u)) w) (holding m a p ts) (andThen (doSimple (length out / 4) m u) closing)
-    closes-first u w a p ts f long room s =
-        comes-then
-        os
-        (holding m a p ts)
-        (doSimple (length out / 4) m u)
-        closing
-        (does-simple u a p ts f long room (stands-left os p (simpleCode v to u) _ s))
-        on-done
-      where
-        on-done : (x : Next) (k : Machine) → Gone (p + length (simpleCode v to u)) x k → Does (past (p + length (simpleCode v to u)) w) k (closing x)
-        on-done x k (gone-on l b us still fine) =
-            lands
-            (onward l)
-            1
-            _
-            (carried-out
-            os
-            b
-            (p + length (simpleCode v to u))
-            (length (l .sent))
-            (l .words ++ us)
-            (sets out 0 (sentBytes (l .sent)))
-            (Jump (past (p + length (simpleCode v to u)) w))
-            _
-            (stands-last os p (simpleCode v to u) _ s)
-            refl)
-            (gone-on l b us still fine)
-        on-done x k (gone-to j l b us there still fine) = lands (at j l) 0 _ (at-once os _) (gone-to j l b us there still fine)
-
-    pub does :
-        (i : Instruction) (a p : ℕ) (ts : List ℕ)
-        → InstructionFormed v n i
-        → length ts ≡ t
-        → instructionTemporaries i ≤ t
-        → Stands os p (instructionCode v to p i)
-        → Does (p + length (instructionCode v to p i)) (holding m a p ts) (doInstruction (length out / 4) m i)
-    does (simple u) a p ts f long room s = does-simple u a p ts f long room s
-    does (when r x y u) a p ts f long room s =
-        chooses
-        r
-        x
-        y
-        (f .0)
-        (f .1)
-        p
-        (past (p + length (comparisonCode v x y)) (simpleCode v to u))
-        (p + length (instructionCode v to p (when r x y u)))
-        (doSimple (length out / 4) m u)
-        (gives (onward m) 0)
-        a
-        ts
-        long
-        (omega (arith, room))
-        (stands-left os p (comparisonCode v x y) _ s)
-        (stands-first os _ _ _ rest)
-        (λ z us still. rw end-at (does-simple u z (p + length (comparisonCode v x y) + 1) us (f .2) still (omega (arith, room)) (stands-rest os _ _ (simpleCode v to u) rest)))
-        (λ z us still. rw end-at (lands (onward m) 0 _ (at-once os _) (gone-on m z us still sound)))
-      where
-        rest : Stands os (p + length (comparisonCode v x y)) (choice r (p + length (comparisonCode v x y)) (simpleCode v to u))
-        rest = stands-right os p (comparisonCode v x y) _ s
-
-        end-at : p + length (instructionCode v to p (when r x y u)) ≡ p + length (comparisonCode v x y) + 1 + length (simpleCode v to u)
-        end-at = ap (λ k. p + k) (length-append (comparisonCode v x y) _) ∙ omega arith
-    does (either r x y u w) a p ts f long room s =
-        chooses
-        r
-        x
-        y
-        (f .0)
-        (f .1)
-        p
-        (p + length before)
-        (p + length (instructionCode v to p (either r x y u w)))
-        (andThen (doSimple (length out / 4) m u) closing)
-        (doSimple (length out / 4) m w)
-        a
-        ts
-        long
-        (omega (arith, room))
-        (stands-left os p (comparisonCode v x y) _ front)
-        (stands-first os _ _ _ rest ∙ ap (Branch (opposite r)) (sym second-at))
-        (λ z us still. rw end-at (closes-first u (simpleCode v to w) z (p + length (comparisonCode v x y) + 1) us (f .2) still (omega (arith, room)) (stands-rest os _ _ body rest)))
-        (λ z us still. rw end-too (does-simple w z (p + length before) us (f .3) still (omega (arith, room)) (stands-right os p before (simpleCode v to w) s)))
-      where
-        body : List Order
-        body = closed (p + length (comparisonCode v x y) + 1) (simpleCode v to u) (simpleCode v to w)
-
-        before : List Order
-        before = comparisonCode v x y ++ choice r (p + length (comparisonCode v x y)) body
-
-        front : Stands os p before
-        front = stands-left os p before (simpleCode v to w) s
-
-        rest : Stands os (p + length (comparisonCode v x y)) (choice r (p + length (comparisonCode v x y)) body)
-        rest = stands-right os p (comparisonCode v x y) _ front
-
-        second-at : p + length before ≡ past (p + length (comparisonCode v x y)) body
-        second-at = ap (λ k. p + k) (length-append (comparisonCode v x y) _) ∙ omega arith
-
-        end-too : p + length (instructionCode v to p (either r x y u w)) ≡ p + length before + length (simpleCode v to w)
-        end-too = ap (λ k. p + k) (length-append before (simpleCode v to w)) ∙ sym (add-assoc p (length before) (length (simpleCode v to w)))
-
-        end-at :
-            p + length (instructionCode v to p (either r x y u w))
-            ≡ past (p + length (comparisonCode v x y) + 1 + length (simpleCode v to u)) (simpleCode v to w)
-        end-at =
-            end-too
-            ∙ ap (λ k. k + length (simpleCode v to w)) second-at
-            ∙ ap (λ k. p + length (comparisonCode v x y) + 1 + k + length (simpleCode v to w)) (length-append (simpleCode v to u) _)
-            ∙ omega arith

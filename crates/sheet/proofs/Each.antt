@@ -19,10 +19,6 @@ module _ {A : Type 0} where
     each-at (a ∷ l) d h zero n = h .0
     each-at (a ∷ l) d h (suc k) n = each-at l d (h .1) k (omega arith)
 
-    pub each-of : (l : List A) (d : A) → ((k : ℕ) → k < length l → P (getD l k d)) → Each P l
-    each-of [] d h = tt
-    each-of (a ∷ l) d h = (h 0 (omega arith), each-of l d (λ k n. h (suc k) (omega arith)))
-
   pub each-map : (P Q : A → Type 0) → ((a : A) → P a → Q a) → (l : List A) → Each P l → Each Q l
   each-map P Q f [] h = tt
   each-map P Q f (a ∷ l) h = (f a (h .0), each-map P Q f l (h .1))

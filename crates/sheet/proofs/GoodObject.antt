@@ -1,32 +1,33 @@
 -- The translation of a sheet within the limits is a good object: its words are variables and temporaries, its addresses are
 -- those of its orders, and STOP is its last order alone.
-use Prim.Native.Nat.{ℕ, zero, suc, _+_, _-_, _≤_, _<_}
+use Prim.Native.Nat.{ℕ, _+_, _-_, _≤_, _<_}
 use mathlib.Core.Path.{_≡_, refl, ap, _∙_}
 use mathlib.Core.Bool.{false}
 use mathlib.Core.List.{List, [], _∷_, _++_}
 use native.Mathlib.Omega.{arith}
-use lib.ListN.{length, getD, take, length-append, List·getD-append}
+use lib.ListN.{length, getD, length-append, List·getD-append}
 use lib.Seq.{getD-append-seam}
 use Rattle.order.specs.declared.Order.{Order}
-use Rattle.order.specs.declared.Order.the-variants.{Word, Number, Store, Neg, Not, Jump, Branch, Send, Stop}
+use Rattle.order.specs.declared.Order.the-variants.{Word, Number, Store, Neg, Not, Jump, Skip, Branch, Send, Stop}
 use Rattle.order.specs.Object.{isStop}
+use Rattle.order.specs.Limits.{mostVariables, mostTemporaries, mostOrders}
 use Rattle.order.specs.Good.{OperandFits, Good}
 use Rattle.order.proofs.OrderTests.{not-stop}
-use Rattle.sheet.specs.Sheet.{Simple, set, send, goto, Instruction, simple, when, either, Sheet, sheet, variables}
-use Rattle.sheet.specs.Translation.{code, temporaries, simpleCode, comparisonCode, comparisonTemporaries}
-use Rattle.sheet.specs.Translation.{choice, closed}
-use Rattle.sheet.specs.Translation.{instructionCode, instructionsCode}
-use Rattle.sheet.specs.Translation.{ordersOfAll, firstOrder, simpleTemporaries, instructionTemporaries}
-use Rattle.sheet.specs.Translation.{temporariesOfAll, sheetTemporaries, translation}
-use Rattle.sheet.specs.Within.{Leads, SimpleFormed, InstructionFormed, AllFormed, Within}
+use Rattle.sheet.specs.Sheet.{Simple, set, send, goto, Condition, compares, Part, end, plain, when, either, count, Sheet, sheet, variables}
+use Rattle.sheet.specs.Orders.{code, simpleCode, simpleSize, comparisonCode, temporaries, simpleTemporaries, comparisonTemporaries}
+use Rattle.sheet.specs.Formed.{Leads, SimpleFormed}
+use Rattle.sheet.specs.Condition.{asking, askingCode, conditionTemporaries, ConditionFormed}
+use Rattle.sheet.specs.Translation.{size, firstOrder, partCode, translation, temporariesOf, sheetTemporaries}
+use Rattle.sheet.specs.Within.{PartFormed, Within}
 use Rattle.sheet.proofs.Each.{Each, each-append, each-map, each-at}
 use Rattle.sheet.proofs.CodeOrders.{OfExpression, statement-orders, comparison-orders}
-use Rattle.sheet.proofs.Targets.{all-count}
+use Rattle.sheet.proofs.Sizes.{code-length}
+use Rattle.sheet.proofs.Starts.{first-below}
 
 -- an order other than STOP that an object of V, T and N can hold
-record Held (v t n : ℕ) (o : Order) : Type 0 where
-  fits : OperandFits v t n o
-  goes-on : isStop o ≡ false
+pub record Held (v t n : ℕ) (o : Order) : Type 0 where
+  pub fits : OperandFits v t n o
+  pub goes-on : isStop o ≡ false
 
 module _ (v t n : ℕ) where
   expression-held : (u : ℕ) → u ≤ t → (o : Order) → OfExpression v u o → Held v t n o
@@ -36,12 +37,25 @@ module _ (v t n : ℕ) where
   expression-held u h Neg p = record { fits = tt; goes-on = refl }
   expression-held u h Not p = record { fits = tt; goes-on = refl }
   expression-held u h (Jump a) p = absurd p
+  expression-held u h (Skip a) p = absurd p
   expression-held u h (Branch r a) p = absurd p
   expression-held u h Send p = absurd p
   expression-held u h Stop p = absurd p
 
   all-held : (u : ℕ) → u ≤ t → (l : List Order) → Each (OfExpression v u) l → Each (Held v t n) l
   all-held u h = each-map (OfExpression v u) (Held v t n) (expression-held u h)
+
+  asking-held :
+      (p : ℕ) (c : Condition) (d : ℕ)
+      → ConditionFormed v c
+      → conditionTemporaries c ≤ t
+      → d < n
+      → Each (Held v t n) (askingCode v p c d)
+  unfolding askingCode conditionTemporaries
+  asking-held p (compares r a b) d f h k =
+      each-append (Held v t n) (comparisonCode v a b) _
+      (all-held (comparisonTemporaries a b) h (comparisonCode v a b) (comparison-orders v a b (f .0) (f .1)))
+      (record { fits = k; goes-on = refl }, tt)
 
   module _ (m : ℕ) (to : ℕ → ℕ) (leads-below : (s : ℕ) → Leads m s → to s < n) where
     simple-held : (u : Simple) → SimpleFormed v m u → simpleTemporaries u ≤ t → Each (Held v t n) (simpleCode v to u)
@@ -55,58 +69,46 @@ module _ (v t n : ℕ) where
         (record { fits = tt; goes-on = refl }, tt)
     simple-held (goto s) x h = (record { fits = leads-below s x; goes-on = refl }, tt)
 
-    instruction-held :
-        (p : ℕ) (i : Instruction)
-        → InstructionFormed v m i
-        → instructionTemporaries i ≤ t
-        → p + length (instructionCode v to p i) < n
-        → Each (Held v t n) (instructionCode v to p i)
-    instruction-held p (simple u) x h k = simple-held u x h
-    instruction-held p (when r a b u) x h k =
-        let below = simp length-append at k in
-        each-append (Held v t n) (comparisonCode v a b) _
-        (all-held (comparisonTemporaries a b) (omega arith) (comparisonCode v a b) (comparison-orders v a b (x .0) (x .1)))
-        (record { fits = omega arith; goes-on = refl }, simple-held u (x .2) (omega arith))
-    instruction-held p (either r a b u w) x h k =
-        let below = simp length-append at k in
-        each-append (Held v t n)
-        (comparisonCode v a b ++ choice r _ (closed _ (simpleCode v to u) (simpleCode v to w)))
-        (simpleCode v to w)
-        (each-append (Held v t n) (comparisonCode v a b) _
-        (all-held (comparisonTemporaries a b) (omega arith) (comparisonCode v a b) (comparison-orders v a b (x .0) (x .1))) (
-          record { fits = simp length-append (omega arith); goes-on = refl },
-          each-append (Held v t n) (simpleCode v to u) _ (simple-held u (x .2) (omega arith)) (record { fits = omega arith; goes-on = refl }, tt),
+    pub part-held :
+        (p : ℕ) (x : Part)
+        → PartFormed v m x
+        → temporariesOf x ≤ t
+        → p + size v x < n
+        → Each (Held v t n) (partCode v to p x)
+    unfolding PartFormed temporariesOf size partCode
+    part-held p end f h k = tt
+    part-held p (plain u l) f h k =
+        each-append (Held v t n) (simpleCode v to u) _
+        (simple-held u (f .0) (omega arith))
+        (part-held (p + simpleSize v u) l (f .1) (omega arith) (omega arith))
+    part-held p (when c x l) f h k =
+        let b = p + asking v c in
+        each-append (Held v t n) (askingCode v p c _) _
+        (asking-held p c _ (f .0) (omega arith) (omega arith))
+        (each-append (Held v t n) (partCode v to b x) _
+        (part-held b x (f .2) (omega arith) (omega arith))
+        (part-held (b + size v x) l (f .3) (omega arith) (omega arith)))
+    part-held p (either c x y l) f h k =
+        let b = p + asking v c in
+        let d = b + size v x + 1 in
+        each-append (Held v t n) (askingCode v p c _) _
+        (asking-held p c _ (f .0) (omega arith) (omega arith))
+        (each-append (Held v t n) (partCode v to b x) _
+        (part-held b x (f .3) (omega arith) (omega arith)) (
+          record { fits = omega arith; goes-on = refl },
+          each-append (Held v t n) (partCode v to d y) _
+              (part-held d y (f .4) (omega arith) (omega arith))
+              (part-held (d + size v y) l (f .5) (omega arith) (omega arith)),
         ))
-        (simple-held w (x .3) (omega arith))
-
-    instructions-held :
-        (p : ℕ) (is : List Instruction)
-        → AllFormed v m is
-        → temporariesOfAll is ≤ t
-        → p + length (instructionsCode v to p is) < n
-        → Each (Held v t n) (instructionsCode v to p is)
-    unfolding instructionsCode AllFormed temporariesOfAll
-    instructions-held p [] x h k = tt
-    instructions-held p (i ∷ is) x h k =
-        let below = simp length-append at k in
-        each-append (Held v t n) (instructionCode v to p i) _
-        (instruction-held p i (x .0) (omega arith) (omega arith))
-        (instructions-held (p + length (instructionCode v to p i)) is (x .1) (omega arith) (omega arith))
 
 -- ---- the whole
-
-first-below : (v k : ℕ) (is : List Instruction) → ordersOfAll v (take k is) ≤ ordersOfAll v is
-unfolding ordersOfAll
-first-below v zero is = omega arith
-first-below v (suc k) [] = omega arith
-first-below v (suc k) (i ∷ is) = let behind = first-below v k is in omega arith
 
 -- STOP behind orders that an object can hold
 ended-good :
     (v t : ℕ) (os : List Order)
-    → v ≤ 64
-    → t ≤ 32
-    → length (os ++ Stop ∷ []) ≤ 1024
+    → v ≤ mostVariables
+    → t ≤ mostTemporaries
+    → length (os ++ Stop ∷ []) ≤ mostOrders
     → Each (Held v t (length (os ++ Stop ∷ []))) os
     → Good v t (os ++ Stop ∷ [])
 ended-good v t os few-variables few-temporaries few-orders held =
@@ -133,18 +135,12 @@ ended-good v t os few-variables few-temporaries few-orders held =
     l = os ++ Stop ∷ []
 
 pub translation-good : (s : Sheet) → Within s → Good (variables s) (sheetTemporaries s) (translation s)
-translation-good (sheet v is) w =
+translation-good (sheet v x) w =
+    let to = firstOrder v x in
+    let os = partCode v to 0 x in
     let counted = length-append os (Stop ∷ []) in
-    ended-good v t os (w .few-variables) (w .few-temporaries) (w .few-orders)
-    (instructions-held v t n (length is) (firstOrder v is)
-    (λ s h. omega (arith, first-below v (s - 1) is, all-count v (firstOrder v is) 0 is))
-    0 is (w .formed) (omega arith) (omega arith))
-  where
-    t : ℕ
-    t = temporariesOfAll is
-
-    os : List Order
-    os = instructionsCode v (firstOrder v is) 0 is
-
-    n : ℕ
-    n = length (os ++ Stop ∷ [])
+    let many = code-length v to 0 x in
+    ended-good v (temporariesOf x) os (w .few-variables) (w .few-temporaries) (w .few-orders)
+    (part-held v (temporariesOf x) (length (os ++ Stop ∷ [])) (count x) to
+    (λ s h. omega (arith, first-below v x s h))
+    0 x (w .formed) (omega arith) (omega arith))

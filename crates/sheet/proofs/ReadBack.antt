@@ -1,118 +1,73 @@
 -- Reading a sheet back from orders: the translation of a sheet gives that sheet; a sheet that is given is within the limits
 -- and translates to the orders that gave it; where none is given no sheet does. So no two sheets have one translation.
-use Prim.Native.Nat.{ℕ, _-_, _≤_, _<_}
+use Prim.Native.Nat.{ℕ}
 use mathlib.Core.Path.{_≡_, refl, sym, ap, _∙_}
-use mathlib.Core.List.{List, _∷_, [], _++_}
+use mathlib.Core.Bool.{true}
+use mathlib.Core.List.{List}
 use native.Mathlib.Omega.{arith}
-use native.Mathlib.Nat.{zero-add}
-use borrow.Author.Tests.{eq-eqb, eqb-true}
-use lib.Dec.{eqb}
-use lib.ListN.{length}
+use borrow.Author.Tests.{le-leb, leb-true, eq-eqb, eqb-true}
+use lib.Dec.{leb, eqb}
 use Rattle.base.specs.Choice.{pick}
-use Rattle.base.specs.Front.{found, missing}
-use Rattle.base.proofs.Cases.{chosen-first}
+use Rattle.base.proofs.Cases.{both-yes, chosen-first}
 use Rattle.order.specs.declared.Order.{Order}
-use Rattle.order.specs.declared.Order.the-variants.{Stop}
 use Rattle.order.specs.Good.{Good}
-use Rattle.order.specs.Order.{operand}
-use Rattle.order.proofs.OrderTests.{numbers-small}
-use Rattle.sheet.specs.Sheet.{Instruction, Sheet, sheet, variables}
-use Rattle.sheet.specs.Translation.{firstOrder, temporariesOfAll, sheetTemporaries, translation}
-use Rattle.sheet.specs.Within.{Leads, Within}
-use Rattle.sheet.specs.ReadBack.{Back, instructionsAt, numberOf, retargetAll, leadsAll, given, none}
-use Rattle.sheet.specs.ReadBack.{numbered, renumbered, untranslate}
-use Rattle.sheet.proofs.Each.{each-of}
-use Rattle.sheet.proofs.ExpressionRead.{Small}
-use Rattle.sheet.proofs.InstructionAgain.{instructions-again}
-use Rattle.sheet.proofs.InstructionRead.{AllRead, instructions-read}
-use Rattle.sheet.proofs.Targets.{number-first, first-number}
-use Rattle.sheet.proofs.Retargeted.{first-same, number-same, length-same, all-again, all-lead, all-formed, all-code}
+use Rattle.sheet.specs.Sheet.{Part, count, Sheet, sheet, variables}
+use Rattle.sheet.specs.Translation.{temporariesOf, sheetTemporaries, translation}
+use Rattle.sheet.specs.Within.{mostLevels, depth, Within}
+use Rattle.sheet.specs.Guess.{guessed}
+use Rattle.sheet.specs.ReadBack.{isPartFormed, given, none, accepts, untranslate}
+use Rattle.sheet.proofs.Checking.{also-yes, part-yes, part-told, same-yes, same-told}
+use Rattle.sheet.proofs.Guessing.{guess-right}
 
 pub read-back : (s : Sheet) → Within s → untranslate (variables s) (sheetTemporaries s) (translation s) ≡ given s
 unfolding pick
-read-back (sheet v is) w =
-    ap (renumbered v (temporariesOfAll is))
-    (instructions-again (length os) v (length os) (length is) (firstOrder v is) 0 is (w .formed) (zero-add (length os))
-    (omega arith))
-    ∙ rw (
-      all-again v (length is) (firstOrder v is) (numberOf v (retargetAll (firstOrder v is) is)) again is (w .formed),
-      all-lead v (length is) is (w .formed),
-      eq-eqb (temporariesOfAll is) (temporariesOfAll is) refl,
-    )
-  where
-    os : List Order
-    os = translation (sheet v is)
-
-    again : (s : ℕ) → Leads (length is) s → numberOf v (retargetAll (firstOrder v is) is) (firstOrder v is s) ≡ s
-    again s h = number-same v (firstOrder v is) is 0 1 (firstOrder v is s) ∙ number-first v is s h
+read-back (sheet v x) w =
+    rw (guess-right v x (w .formed) (w .few-levels))
+    (ap (λ t. pick t (given (sheet v x)) none)
+    (also-yes _ _ (part-yes v (count x) x (w .formed))
+    (also-yes _ _ (le-leb (depth x) mostLevels (w .few-levels))
+    (also-yes _ _ (eq-eqb (temporariesOf x) (temporariesOf x) refl) (same-yes (translation (sheet v x)))))))
 
 -- ---- what is given
 
 not-given : {P : Type 0} (s : Sheet) → none ≡ given s → P
 not-given s e = let z : _≡_ {A = ℕ} 0 1 = cc in absurd (omega arith)
 
--- s is within the limits, and these are its V, its T and its orders
-Translates : ℕ → ℕ → List Order → Sheet → Type 0
-Translates v t os s = Within s × (variables s ≡ v) × (sheetTemporaries s ≡ t) × (translation s ≡ os)
-
-numbered-translates :
-    (v t : ℕ) (os : List Order) (js : List Instruction) (s : Sheet)
+-- a guess that is accepted
+accepted :
+    (v t : ℕ) (os : List Order) (x : Part)
     → Good v t os
-    → AllRead v 0 os js
-    → numbered v t (retargetAll (numberOf v js) js) ≡ given s
-    → Translates v t os s
-unfolding Translates
-numbered-translates v t os js s g read e =
-    let leading = chosen-first (leadsAll is) _ none (given s) (not-given s) e in
-    let counted = chosen-first (eqb (temporariesOfAll is) t) _ none (given s) (not-given s) (leading .1) in
-    let whole : translation (sheet v is) ≡ os =
-    ap (λ l. l ++ Stop ∷ []) (all-code v (length is) (firstOrder v is) (numberOf v js) there 0 js (leading .0))
-    ∙ sym (read .whole)
-    in
-    let used : temporariesOfAll is ≡ t = eqb-true (temporariesOfAll is) t (counted .0) in
-    let last = counted .1 in
-    let read-as : sheet v is ≡ s = cc in
-    rw (← read-as) (
+    → accepts v t os x ≡ true
+    → Within (sheet v x) × (temporariesOf x ≡ t) × (translation (sheet v x) ≡ os)
+accepted v t os x g e =
+    let all = both-yes (isPartFormed v (count x) x) _ e in
+    let levels = both-yes (leb (depth x) mostLevels) _ (all .1) in
+    let rest = both-yes (eqb (temporariesOf x) t) _ (levels .1) in
+    let used = eqb-true (temporariesOf x) t (rest .0) in
+    let whole = same-told (translation (sheet v x)) os (rest .1) in (
       record {
-        formed = all-formed v (length is) (firstOrder v is) (numberOf v js) there js (read .shaped) (leading .0);
+        formed = part-told v (count x) x (all .0);
+        few-levels = leb-true (depth x) mostLevels (levels .0);
         few-variables = g .variables;
         few-temporaries = rw used (g .temporaries);
         few-orders = rw whole (g .few-orders);
       },
-      refl,
       used,
       whole,
     )
-  where
-    is : List Instruction
-    is = retargetAll (numberOf v js) js
-
-    there : (a : ℕ) → 0 < numberOf v js a → (firstOrder v is (numberOf v js a) ≡ a) × Leads (length is) (numberOf v js a)
-    there a h =
-        let first = first-number v js a h in
-        (first-same v (numberOf v js) (numberOf v js a - 1) js ∙ first .0, rw (length-same (numberOf v js) js) (first .1))
 
 pub given-translates :
     (v t : ℕ) (os : List Order) (s : Sheet)
     → Good v t os
     → untranslate v t os ≡ given s
     → Within s × (variables s ≡ v) × (sheetTemporaries s ≡ t) × (translation s ≡ os)
-unfolding Translates
-given-translates v t os s g e = go (instructionsAt (length os) v (length os) os) refl e
-  where
-    small : Small os
-    small = each-of (λ o. operand o ≤ 2147483647) os Stop (numbers-small v t os g)
-
-    go :
-        (b : Back (List Instruction))
-        → instructionsAt (length os) v (length os) os ≡ b
-        → renumbered v t b ≡ given s
-        → Translates v t os s
-    go missing f h = not-given s h
-    go (found js l) f h =
-        numbered-translates v t os js s g
-        (instructions-read (length os) v (length os) 0 os js l f small (zero-add (length os)))
-        h
+given-translates v t os s g e =
+    let x = guessed v os in
+    let chosen = chosen-first (accepts v t os x) (given (sheet v x)) none (given s) (not-given s) e in
+    let so = accepted v t os x g (chosen .0) in
+    let last = chosen .1 in
+    let it : sheet v x ≡ s = cc in
+    rw (← it) (so .0, refl, so .1, so .2)
 
 -- ---- what follows
 

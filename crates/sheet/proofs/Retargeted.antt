@@ -1,146 +1,78 @@
 -- Instructions whose jumps were given other targets.
-use Prim.Native.Nat.{ℕ, zero, suc, _+_, _<_, max}
+use Prim.Native.Nat.{ℕ, suc, _+_, max}
 use mathlib.Core.Path.{_≡_, refl, ap, ap₂}
-use mathlib.Core.Bool.{true}
-use mathlib.Core.List.{List, [], _∷_}
-use borrow.Author.Tests.{lt-ltb, ltb-true}
-use lib.ListN.{length, take}
-use Rattle.base.specs.Choice.{pick}
-use Rattle.base.proofs.Cases.{both-yes}
-use Rattle.order.specs.declared.Order.the-variants.{Jump}
-use Rattle.sheet.specs.Sheet.{Simple, set, send, goto, Instruction, simple, when, either, retarget, retargetOne}
-use Rattle.sheet.specs.Translation.{simpleCode, instructionCode, instructionsCode, orders, ordersOfAll}
-use Rattle.sheet.specs.Translation.{simpleTemporaries, instructionTemporaries, temporariesOfAll}
-use Rattle.sheet.specs.Within.{Leads, SimpleFormed, InstructionFormed, AllFormed}
-use Rattle.sheet.specs.ReadBack.{numberFrom, retargetAll, leads, leadsOne, leadsAll}
-use Rattle.sheet.proofs.Each.{Each}
-use Rattle.sheet.proofs.InstructionRead.{SimpleShaped, InstructionShaped, asRead}
+use Rattle.sheet.specs.Sheet.{Simple, set, send, goto, Part, end, plain, when, either, count, retarget, retargetPart}
+use Rattle.sheet.specs.Orders.{simpleSize, simpleTemporaries}
+use Rattle.sheet.specs.Formed.{Leads, SimpleFormed}
+use Rattle.sheet.specs.Condition.{asking}
+use Rattle.sheet.specs.Translation.{size, starts, temporariesOf}
+use Rattle.sheet.specs.Within.{PartFormed, depth}
 
 -- ---- what does not change
 
-module _ (v : ℕ) (to : ℕ → ℕ) where
-  simple-through : (f : ℕ → ℕ) (u : Simple) → simpleCode v f (retarget to u) ≡ simpleCode v (λ s. f (to s)) u
-  simple-through f (set w e) = refl
-  simple-through f (send e) = refl
-  simple-through f (goto s) = refl
-
-  -- however many orders there are where every jump leads to 0
-  orders-same : (i : Instruction) → orders v (retargetOne to i) ≡ orders v i
-  orders-same (simple u) = ap length (simple-through (λ s. 0) u)
-  orders-same (when r a b u) = rw (simple-through (λ s. 0) u)
-  orders-same (either r a b u w) = rw (simple-through (λ s. 0) u, simple-through (λ s. 0) w)
-
-  pub first-same : (k : ℕ) (is : List Instruction) → ordersOfAll v (take k (retargetAll to is)) ≡ ordersOfAll v (take k is)
-  unfolding retargetAll ordersOfAll
-  first-same zero is = refl
-  first-same (suc k) [] = refl
-  first-same (suc k) (i ∷ is) = ap₂ _+_ (orders-same i) (first-same k is)
-
-  pub number-same : (is : List Instruction) (p s a : ℕ) → numberFrom v (retargetAll to is) p s a ≡ numberFrom v is p s a
-  unfolding retargetAll numberFrom
-  number-same [] p s a = refl
-  number-same (i ∷ is) p s a = rw (orders-same i, number-same is (p + orders v i) (suc s) a)
-
 module _ (to : ℕ → ℕ) where
-  pub length-same : (is : List Instruction) → length (retargetAll to is) ≡ length is
-  unfolding retargetAll
-  length-same [] = refl
-  length-same (i ∷ is) = ap suc (length-same is)
+  pub count-same : (x : Part) → count (retargetPart to x) ≡ count x
+  unfolding count retargetPart
+  count-same end = refl
+  count-same (plain u l) = ap suc (count-same l)
+  count-same (when c x l) = rw (count-same x, count-same l)
+  count-same (either c x y l) = rw (count-same x, count-same y, count-same l)
+
+  pub depth-same : (x : Part) → depth (retargetPart to x) ≡ depth x
+  unfolding depth retargetPart
+  depth-same end = refl
+  depth-same (plain u l) = depth-same l
+  depth-same (when c x l) = rw (depth-same x, depth-same l)
+  depth-same (either c x y l) = rw (depth-same x, depth-same y, depth-same l)
 
   simple-temporaries : (u : Simple) → simpleTemporaries (retarget to u) ≡ simpleTemporaries u
   simple-temporaries (set w e) = refl
   simple-temporaries (send e) = refl
   simple-temporaries (goto s) = refl
 
-  temporaries-one : (i : Instruction) → instructionTemporaries (retargetOne to i) ≡ instructionTemporaries i
-  temporaries-one (simple u) = simple-temporaries u
-  temporaries-one (when r a b u) = rw (simple-temporaries u)
-  temporaries-one (either r a b u w) = rw (simple-temporaries u, simple-temporaries w)
+  pub temporaries-same : (x : Part) → temporariesOf (retargetPart to x) ≡ temporariesOf x
+  unfolding temporariesOf retargetPart
+  temporaries-same end = refl
+  temporaries-same (plain u l) = ap₂ max (simple-temporaries u) (temporaries-same l)
+  temporaries-same (when c x l) = rw (temporaries-same x, temporaries-same l)
+  temporaries-same (either c x y l) = rw (temporaries-same x, temporaries-same y, temporaries-same l)
 
-  pub temporaries-same : (is : List Instruction) → temporariesOfAll (retargetAll to is) ≡ temporariesOfAll is
-  unfolding retargetAll temporariesOfAll
-  temporaries-same [] = refl
-  temporaries-same (i ∷ is) = ap₂ max (temporaries-one i) (temporaries-same is)
+module _ (v : ℕ) (to : ℕ → ℕ) where
+  simple-size : (u : Simple) → simpleSize v (retarget to u) ≡ simpleSize v u
+  simple-size (set w e) = refl
+  simple-size (send e) = refl
+  simple-size (goto s) = refl
 
--- ---- jumps to instructions, by way of addresses, and back
+  pub size-same : (x : Part) → size v (retargetPart to x) ≡ size v x
+  unfolding size retargetPart
+  size-same end = refl
+  size-same (plain u l) = rw (simple-size u, size-same l)
+  size-same (when c x l) = rw (size-same x, size-same l)
+  size-same (either c x y l) = rw (size-same x, size-same y, size-same l)
+
+  pub starts-same : (p : ℕ) (x : Part) → starts v p (retargetPart to x) ≡ starts v p x
+  unfolding starts retargetPart
+  starts-same p end = refl
+  starts-same p (plain u l) = rw (simple-size u, starts-same (p + simpleSize v u) l)
+  starts-same p (when c x l) =
+      let b = p + asking v c in
+      rw (size-same x, starts-same b x, starts-same (b + size v x) l)
+  starts-same p (either c x y l) =
+      let b = p + asking v c in
+      let d = b + size v x + 1 in
+      rw (size-same x, size-same y, starts-same b x, starts-same d y, starts-same (d + size v y) l)
+
+-- ---- there and back
 
 module _ (v n : ℕ) (to back : ℕ → ℕ) (again : (s : ℕ) → Leads n s → back (to s) ≡ s) where
   simple-again : (u : Simple) → SimpleFormed v n u → retarget back (retarget to u) ≡ u
-  simple-again (set w e) x = refl
-  simple-again (send e) x = refl
-  simple-again (goto s) x = ap goto (again s x)
+  simple-again (set w e) f = refl
+  simple-again (send e) f = refl
+  simple-again (goto s) f = ap goto (again s f)
 
-  one-again : (i : Instruction) → InstructionFormed v n i → retargetOne back (retargetOne to i) ≡ i
-  one-again (simple u) x = ap simple (simple-again u x)
-  one-again (when r a b u) x = ap (when r a b) (simple-again u (x .2))
-  one-again (either r a b u w) x = ap₂ (either r a b) (simple-again u (x .2)) (simple-again w (x .3))
-
-  pub all-again : (is : List Instruction) → AllFormed v n is → retargetAll back (retargetAll to is) ≡ is
-  unfolding retargetAll AllFormed
-  all-again [] x = refl
-  all-again (i ∷ is) x = ap₂ _∷_ (one-again i (x .0)) (all-again is (x .1))
-
-module _ (v n : ℕ) where
-  simple-leads : (u : Simple) → SimpleFormed v n u → leads u ≡ true
-  simple-leads (set w e) x = refl
-  simple-leads (send e) x = refl
-  simple-leads (goto s) x = lt-ltb 0 s (x .0)
-
-  one-leads : (i : Instruction) → InstructionFormed v n i → leadsOne i ≡ true
-  unfolding pick
-  one-leads (simple u) x = simple-leads u x
-  one-leads (when r a b u) x = simple-leads u (x .2)
-  one-leads (either r a b u w) x = rw (simple-leads u (x .2)) (simple-leads w (x .3))
-
-  pub all-lead : (is : List Instruction) → AllFormed v n is → leadsAll is ≡ true
-  unfolding leadsAll AllFormed pick
-  all-lead [] x = refl
-  all-lead (i ∷ is) x = rw (one-leads i (x .0)) (all-lead is (x .1))
-
--- ---- jumps to addresses, by way of the instructions there
-
-module _ (v n : ℕ) (to back : ℕ → ℕ) (there : (a : ℕ) → 0 < back a → (to (back a) ≡ a) × Leads n (back a)) where
-  simple-formed : (u : Simple) → SimpleShaped v u → leads (retarget back u) ≡ true → SimpleFormed v n (retarget back u)
-  simple-formed (set w e) x y = x
-  simple-formed (send e) x y = x
-  simple-formed (goto a) x y = there a (ltb-true 0 (back a) y) .1
-
-  one-formed :
-      (i : Instruction)
-      → InstructionShaped v i
-      → leadsOne (retargetOne back i) ≡ true
-      → InstructionFormed v n (retargetOne back i)
-  one-formed (simple u) x y = simple-formed u x y
-  one-formed (when r a b u) x y = (x .0, x .1, simple-formed u (x .2) y)
-  one-formed (either r a b u w) x y =
-      let both = both-yes (leads (retarget back u)) _ y in
-      (x .0, x .1, simple-formed u (x .2) (both .0), simple-formed w (x .3) (both .1))
-
-  pub all-formed : (is : List Instruction) → Each (InstructionShaped v) is → leadsAll (retargetAll back is) ≡ true
-      → AllFormed v n (retargetAll back is)
-  unfolding retargetAll leadsAll AllFormed
-  all-formed [] x y = tt
-  all-formed (i ∷ is) x y =
-      let both = both-yes (leadsOne (retargetOne back i)) _ y in
-      (one-formed i (x .0) (both .0), all-formed is (x .1) (both .1))
-
-  simple-code : (u : Simple) → leads (retarget back u) ≡ true → simpleCode v to (retarget back u) ≡ simpleCode v asRead u
-  simple-code (set w e) y = refl
-  simple-code (send e) y = refl
-  simple-code (goto a) y = ap (λ k. Jump k ∷ []) (there a (ltb-true 0 (back a) y) .0)
-
-  one-code : (p : ℕ) (i : Instruction) → leadsOne (retargetOne back i) ≡ true
-      → instructionCode v to p (retargetOne back i) ≡ instructionCode v asRead p i
-  one-code p (simple u) y = simple-code u y
-  one-code p (when r a b u) y = rw (simple-code u y)
-  one-code p (either r a b u w) y =
-      let both = both-yes (leads (retarget back u)) _ y in
-      rw (simple-code u (both .0), simple-code w (both .1))
-
-  pub all-code : (p : ℕ) (is : List Instruction) → leadsAll (retargetAll back is) ≡ true
-      → instructionsCode v to p (retargetAll back is) ≡ instructionsCode v asRead p is
-  unfolding retargetAll leadsAll instructionsCode
-  all-code p [] y = refl
-  all-code p (i ∷ is) y =
-      let both = both-yes (leadsOne (retargetOne back i)) _ y in
-      rw (one-code p i (both .0), all-code (p + length (instructionCode v asRead p i)) is (both .1))
+  pub part-again : (x : Part) → PartFormed v n x → retargetPart back (retargetPart to x) ≡ x
+  unfolding retargetPart PartFormed
+  part-again end f = refl
+  part-again (plain u l) f = ap₂ plain (simple-again u (f .0)) (part-again l (f .1))
+  part-again (when c x l) f = ap₂ (when c) (part-again x (f .2)) (part-again l (f .3))
+  part-again (either c x y l) f = rw (part-again x (f .3), part-again y (f .4), part-again l (f .5))

@@ -15,9 +15,9 @@ use Rattle.machine.specs.Machine.{Machine, done, failed, operate, toAcc, effect
 use Rattle.sheet.specs.declared.Operator.{Operator}
 use Rattle.sheet.specs.declared.Operator.the-variants.{Plus, Minus, Times, Over, Power, Left, Right, And, Or, Unlike}
 use Rattle.sheet.specs.Sheet.{Expression, word, constant, negated, inverted, binary, Operand, inWord, itself, workedOut, operand}
-use Rattle.sheet.specs.Translation.{operation, temporary, joined, code, joinedTemporaries, temporaries}
-use Rattle.sheet.specs.Within.{Expressed}
-use Rattle.sheet.specs.Meaning.{Counted, gives, faults, behind, andThen, byOrder, apply, both, worth}
+use Rattle.sheet.specs.Orders.{operation, temporary, joined, code, joinedTemporaries, temporaries}
+use Rattle.sheet.specs.Formed.{Expressed}
+use Rattle.sheet.specs.Worth.{Counted, gives, faults, behind, andThen, byOrder, apply, both, worth}
 use Rattle.sheet.proofs.Values.{Each}
 use Rattle.sheet.proofs.Reach.{behind-last, here, Reaches, at-once, and-on, Stands, stands-first, stands-left, stands-right, stands-last, stands-rest, carried-out, not-carried-out}
 

@@ -5,19 +5,21 @@ use mathlib.Core.List.{List, [], _∷_, _++_}
 use native.Mathlib.Omega.{arith}
 use borrow.Author.Tests.{eq-eqb, ne-eqb}
 use lib.Dec.{eqb}
-use lib.ListN.{length}
 use Rattle.base.specs.Choice.{pick}
 use Rattle.base.proofs.Cases.{by-equal}
 use Rattle.order.specs.declared.Operation.{Operation}
 use Rattle.order.specs.declared.Operation.the-variants.{Load, Cmp}
 use Rattle.order.specs.declared.Order.{Order}
-use Rattle.order.specs.declared.Order.the-variants.{Word, Number, Store, Neg, Not, Jump, Send, Stop}
+use Rattle.order.specs.declared.Order.the-variants.{Word, Number, Store, Neg, Not, Skip, Branch, Send, Stop}
 use Rattle.sheet.specs.Sheet.{Expression, word, constant, negated, inverted, binary, Operand, inWord, itself, workedOut, operand}
-use Rattle.sheet.specs.Sheet.{Simple, set, send, goto, Instruction, simple, when, either, Sheet, sheet, variables}
-use Rattle.sheet.specs.Translation.{operation, temporary, joined, code, simpleCode, comparisonCode, past, choice, closed, instructionCode, instructionsCode, firstOrder, translation}
-use Rattle.sheet.specs.Translation.{joinedTemporaries, temporaries, simpleTemporaries, comparisonTemporaries, instructionTemporaries, temporariesOfAll, sheetTemporaries}
+use Rattle.sheet.specs.Sheet.{Simple, set, send, goto, Condition, compares, Part, end, plain, when, either, count, Sheet, sheet, variables}
+use Rattle.sheet.specs.Orders.{operation, temporary, joined, code, simpleCode, simpleSize, opposite, comparisonCode}
+use Rattle.sheet.specs.Orders.{joinedTemporaries, temporaries, simpleTemporaries, comparisonTemporaries}
+use Rattle.sheet.specs.Formed.{SimpleFormed}
+use Rattle.sheet.specs.Condition.{asking, askingCode, conditionTemporaries}
+use Rattle.sheet.specs.Translation.{size, firstOrder, partCode, translation, temporariesOf, sheetTemporaries}
 use Rattle.sheet.specs.Temporaries.{temporaryOf, storedTo, largestStored}
-use Rattle.sheet.specs.Within.{SimpleFormed, InstructionFormed, AllFormed, Formed}
+use Rattle.sheet.specs.Within.{PartFormed, Formed}
 
 -- ---- the temporaries that an expression uses, with d in use before it: none, or those up to d and its own
 
@@ -123,6 +125,13 @@ module _ (v : ℕ) where
       let same = code-stored 0 e ∙ raised-zero (temporaries e) in
       omega (arith, all, same, none)
 
+  asking-stored : (p : ℕ) (c : Condition) (d : ℕ) → largestStored v (askingCode v p c d) ≡ conditionTemporaries c
+  unfolding askingCode conditionTemporaries largestStored
+  asking-stored p (compares r a b) d =
+      let all = stored-append (comparisonCode v a b) (Branch (opposite r) d ∷ []) in
+      let same = comparison-stored a b in
+      omega (arith, all, same)
+
   module _ (m : ℕ) (to : ℕ → ℕ) where
     -- SET stores to a variable
     simple-stored : (u : Simple) → SimpleFormed v m u → largestStored v (simpleCode v to u) ≡ simpleTemporaries u
@@ -131,40 +140,36 @@ module _ (v : ℕ) where
     simple-stored (send e) x = statement-stored e Send refl
     simple-stored (goto s) x = omega arith
 
-    instruction-stored : (p : ℕ) (i : Instruction) → InstructionFormed v m i → largestStored v (instructionCode v to p i) ≡ instructionTemporaries i
-    unfolding largestStored
-    instruction-stored p (simple u) x = simple-stored u x
-    instruction-stored p (when r a b u) x =
-        let all = stored-append (comparisonCode v a b) (choice r (p + length (comparisonCode v a b)) (simpleCode v to u)) in
-        let compared = comparison-stored a b in
-        let first = simple-stored u (x .2) in
-        omega (arith, all, compared, first)
-    instruction-stored p (either r a b u w) x =
-        let k = p + length (comparisonCode v a b) in
-        let us = simpleCode v to u in
-        let ws = simpleCode v to w in
-        let all = stored-append (comparisonCode v a b ++ choice r k (closed (k + 1) us ws)) ws in
-        let front = stored-append (comparisonCode v a b) (choice r k (closed (k + 1) us ws)) in
-        let over = stored-append us (Jump (past (k + 1 + length us) ws) ∷ []) in
-        let compared = comparison-stored a b in
-        let first = simple-stored u (x .2) in
-        let second = simple-stored w (x .3) in
-        omega (arith, all, front, over, compared, first, second)
-
-    instructions-stored : (p : ℕ) (is : List Instruction) → AllFormed v m is → largestStored v (instructionsCode v to p is) ≡ temporariesOfAll is
-    unfolding instructionsCode AllFormed temporariesOfAll largestStored
-    instructions-stored p [] x = refl
-    instructions-stored p (i ∷ is) x =
-        let here = instructionCode v to p i in
-        let all = stored-append here (instructionsCode v to (p + length here) is) in
-        let first = instruction-stored p i (x .0) in
-        let rest = instructions-stored (p + length here) is (x .1) in
-        omega (arith, all, first, rest)
+    part-stored : (p : ℕ) (x : Part) → PartFormed v m x → largestStored v (partCode v to p x) ≡ temporariesOf x
+    unfolding partCode PartFormed temporariesOf largestStored
+    part-stored p end f = refl
+    part-stored p (plain u l) f =
+        let d = p + simpleSize v u in
+        stored-append (simpleCode v to u) (partCode v to d l) ∙ ap₂ max (simple-stored u (f .0)) (part-stored d l (f .1))
+    part-stored p (when c x l) f =
+        let b = p + asking v c in
+        let z = b + size v x in
+        stored-append (askingCode v p c z) _
+        ∙ ap₂ max (asking-stored p c z)
+        (stored-append (partCode v to b x) (partCode v to z l) ∙ ap₂ max (part-stored b x (f .2)) (part-stored z l (f .3)))
+    part-stored p (either c x y l) f =
+        let b = p + asking v c in
+        let d = b + size v x + 1 in
+        let z = d + size v y in
+        let seconds = partCode v to d y ++ partCode v to z l in
+        let over : largestStored v (Skip z ∷ seconds) ≡ largestStored v seconds = omega arith in
+        stored-append (askingCode v p c d) _
+        ∙ ap₂ max (asking-stored p c d)
+        (stored-append (partCode v to b x) (Skip z ∷ seconds)
+        ∙ ap₂ max (part-stored b x (f .3))
+        (over
+        ∙ stored-append (partCode v to d y) (partCode v to z l)
+        ∙ ap₂ max (part-stored d y (f .4)) (part-stored z l (f .5))))
 
 -- "T is the most that any statement uses."
 pub temporaries-stored : (s : Sheet) → Formed s → largestStored (variables s) (translation s) ≡ sheetTemporaries s
 unfolding largestStored
-temporaries-stored (sheet v is) x =
-    let all = stored-append v (instructionsCode v (firstOrder v is) 0 is) (Stop ∷ []) in
-    let most = instructions-stored v (length is) (firstOrder v is) 0 is x in
+temporaries-stored (sheet v x) f =
+    let all = stored-append v (partCode v (firstOrder v x) 0 x) (Stop ∷ []) in
+    let most = part-stored v (count x) (firstOrder v x) 0 x f in
     omega (arith, all, most)

@@ -15,10 +15,12 @@ use Rattle.machine.proofs.Effects.{Given, gives as worked, faults as faulting, 
 use Rattle.sheet.specs.declared.Operator.{Operator}
 use Rattle.sheet.specs.declared.Operator.the-variants.{Plus, Minus, Times, Over, Power, Left, Right, And, Or, Unlike}
 use Rattle.sheet.specs.Sheet.{Expression, word, constant, negated, inverted, binary, Operand, inWord, itself, workedOut, operand}
-use Rattle.sheet.specs.Sheet.{Simple, set, send, goto, Instruction, simple, when, either}
-use Rattle.sheet.specs.Translation.{operation}
-use Rattle.sheet.specs.Within.{Expressed}
-use Rattle.sheet.specs.Meaning.{Counted, gives, faults, behind, andThen, byOrder, apply, both, worth, holds, Store, doSimple, doInstruction}
+use Rattle.sheet.specs.Sheet.{Simple, set, send, goto, Condition, compares}
+use Rattle.sheet.specs.Orders.{operation}
+use Rattle.sheet.specs.Formed.{Expressed}
+use Rattle.sheet.specs.Worth.{Counted, gives, faults, behind, andThen, byOrder, apply, both, worth, holds, Store, doSimple}
+use Rattle.sheet.specs.Condition.{answer}
+use Rattle.sheet.specs.Meaning.{Move, deed, question, doMove}
 
 -- ---- what holds of that which is given
 
@@ -150,10 +152,12 @@ some-simple room m (set w e) = some-then (worth (m .words) e) _ (some-worth (m .
 some-simple room m (send e) = some-then (worth (m .words) e) _ (some-worth (m .words) e)
 some-simple room m (goto s) = omega arith
 
-pub some-instruction : (room : ℕ) (m : Store) (i : Instruction) → Some (doInstruction room m i)
-some-instruction room m (simple u) = some-simple room m u
-some-instruction room m (when r a b u) = some-then (holds (m .words) r a b) _ (some-holds (m .words) r a b)
-some-instruction room m (either r a b u w) = some-then (holds (m .words) r a b) _ (some-holds (m .words) r a b)
+some-answer : (ws : List ℕ) (c : Condition) → Some (answer ws c)
+some-answer ws (compares r a b) = some-holds ws r a b
+
+pub some-move : (room : ℕ) (m : Store) (x : Move) → Some (doMove room m x)
+some-move room m (deed u w) = some-then (doSimple room m u) _ (some-simple room m u)
+some-move room m (question c yes-way no-way) = some-then (answer (m .words) c) _ (some-answer (m .words) c)
 
 -- ---- a comparison, and what follows from its answer
 

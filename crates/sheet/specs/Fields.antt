@@ -1,9 +1,9 @@
 -- The fields of a sheet and its text, document 01 ("Sheet text, fields and lines as above"). Texts are lists of bytes: 9 is
--- the tab, 10 the newline. Comments in quotes are document 01's words.
+-- the tab, 10 the newline. Comments in quotes are the words of document 01 and of 02,
+-- L1.
 use Prim.Native.Nat.{ℕ}
 use Prim.Native.String.{String}
 use mathlib.Core.List.{List, [], _∷_, _++_}
-use lib.ListN.{length}
 use Rattle.base.specs.Text.{bytes}
 use Rattle.word.specs.declared.Relation.{Relation}
 use Rattle.word.specs.declared.Relation.the-variants.{Equal, Unequal, Less, AtMost, Greater, AtLeast}
@@ -11,9 +11,9 @@ use Rattle.text.specs.Pieces.{decimal}
 use Rattle.sheet.specs.declared.Operator.{Operator}
 use Rattle.sheet.specs.declared.Operator.the-variants.{Plus, Minus, Times, Over, Power, Left, Right, And, Or, Unlike}
 use Rattle.sheet.specs.declared.Field.{Field}
-use Rattle.sheet.specs.declared.Field.the-variants.{Else, Then, Send, Neg, Not, Binary, If, Word, Constant, Set, Goto}
+use Rattle.sheet.specs.declared.Field.the-variants.{Else, Start, Finish, If, Send, Neg, Not, Binary, Compare, Word, Constant, Set, Goto}
 use Rattle.sheet.specs.Sheet.{Expression, word, constant, negated, inverted, binary, Simple, set, send, goto}
-use Rattle.sheet.specs.Sheet.{Instruction, simple, when, either, Sheet, sheet}
+use Rattle.sheet.specs.Sheet.{Condition, compares, Part, end, plain, when, either, count, Sheet, sheet}
 
 -- ---- the fields of a sheet. "Expressions are in prefix order, a field a node"
 
@@ -30,19 +30,21 @@ simpleFields (set w e) = Set w ∷ expressionFields e
 simpleFields (send e) = Send ∷ expressionFields e
 simpleFields (goto s) = Goto s ∷ []
 
--- "or `IF` rel expr expr `THEN` u, with `ELSE` u where there is one"
-abbrev pub instructionFields : Instruction → List Field
-instructionFields (simple u) = simpleFields u
-instructionFields (when r a b u) = If r ∷ expressionFields a ++ expressionFields b ++ Then ∷ simpleFields u
-instructionFields (either r a b u w) =
-    If r ∷ expressionFields a ++ expressionFields b ++ Then ∷ simpleFields u ++ Else ∷ simpleFields w
+-- "`IF` rel expr expr": what is behind IF
+abbrev pub conditionFields : Condition → List Field
+conditionFields (compares r a b) = Compare r ∷ (expressionFields a ++ expressionFields b)
 
-unfoldable pub fieldsOfAll : List Instruction → List Field
-fieldsOfAll [] = []
-fieldsOfAll (i ∷ is) = instructionFields i ++ fieldsOfAll is
+-- "In a sheet an IF line ends with its expressions; a line `START`, the first part, where there is a second a line `ELSE` and that
+-- part, and a line `FINISH` follow"
+unfoldable pub partFields : Part → List Field
+partFields end = []
+partFields (plain u l) = simpleFields u ++ partFields l
+partFields (when c x l) = If ∷ (conditionFields c ++ (Start ∷ (partFields x ++ (Finish ∷ partFields l))))
+partFields (either c x y l) =
+    If ∷ (conditionFields c ++ (Start ∷ (partFields x ++ (Else ∷ (partFields y ++ (Finish ∷ partFields l))))))
 
 abbrev pub sheetFields : Sheet → List Field
-sheetFields (sheet v is) = fieldsOfAll is
+sheetFields (sheet v x) = partFields x
 
 -- ---- the text
 
@@ -68,15 +70,17 @@ relationText AtMost = "<="
 relationText Greater = ">"
 relationText AtLeast = ">="
 
--- SET, GOTO and IF stand here with the field behind them
+-- SET and GOTO stand here with the field behind them
 abbrev pub fieldText : Field → List ℕ
 fieldText Else = bytes "ELSE"
-fieldText Then = bytes "THEN"
+fieldText Start = bytes "START"
+fieldText Finish = bytes "FINISH"
+fieldText If = bytes "IF"
 fieldText Send = bytes "SEND"
 fieldText Neg = bytes "NEG"
 fieldText Not = bytes "NOT"
 fieldText (Binary o) = bytes (operatorText o)
-fieldText (If r) = bytes "IF\t" ++ bytes (relationText r)
+fieldText (Compare r) = bytes (relationText r)
 fieldText (Word w) = bytes "W" ++ decimal w
 fieldText (Constant n) = bytes "K" ++ decimal n
 fieldText (Set w) = bytes "SET\t" ++ decimal w
@@ -91,11 +95,15 @@ unfoldable pub line : List Field → List ℕ
 line [] = 10 ∷ []
 line (f ∷ fs) = fieldText f ++ lineRest fs
 
--- "then one line each"
-unfoldable pub lines : List Instruction → List ℕ
-lines [] = []
-lines (i ∷ is) = line (instructionFields i) ++ lines is
+-- "then one line each", and those of START, ELSE and FINISH
+unfoldable pub lines : Part → List ℕ
+lines end = []
+lines (plain u l) = line (simpleFields u) ++ lines l
+lines (when c x l) = line (If ∷ conditionFields c) ++ (line (Start ∷ []) ++ (lines x ++ (line (Finish ∷ []) ++ lines l)))
+lines (either c x y l) =
+    line (If ∷ conditionFields c)
+    ++ (line (Start ∷ []) ++ (lines x ++ (line (Else ∷ []) ++ (lines y ++ (line (Finish ∷ []) ++ lines l)))))
 
 -- "`SHEET`, V, number of instructions"
 abbrev pub sheetText : Sheet → List ℕ
-sheetText (sheet v is) = bytes "SHEET\t" ++ decimal v ++ 9 ∷ decimal (length is) ++ 10 ∷ lines is
+sheetText (sheet v x) = bytes "SHEET\t" ++ decimal v ++ 9 ∷ decimal (count x) ++ 10 ∷ lines x

@@ -1,8 +1,14 @@
 pub mod Sheet
+pub mod Orders
+pub mod Formed
+pub mod Worth
+pub mod Condition
 pub mod Translation
+pub mod Beginnings
 pub mod Temporaries
 pub mod Within
 pub mod Fields
 pub mod Meaning
 pub mod Following
+pub mod Guess
 pub mod ReadBack

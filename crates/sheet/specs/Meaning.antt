@@ -1,112 +1,72 @@
 -- What a sheet means, document 01: "laid down on its instructions and the word arithmetic, never by running orders. It
 -- counts, for each instruction done, the orders of the path it takes, STOP too, and in a faulting one the orders before the
--- fault." Comments in quotes are document 01's words.
+-- fault." It goes by the numbers of the instructions. Comments in quotes are the words of document 01 and of 02, L1.
 use Prim.Native.Nat.{ℕ, zero, suc, _+_, _≤_}
 use mathlib.Core.Path.{_≡_}
-use mathlib.Core.Bool.{Bool}
 use mathlib.Core.List.{List, [], _∷_, _++_}
-use lib.Dec.{ltb, eqb}
-use lib.ListN.{length, getD, set as put, replicate}
+use lib.Dec.{eqb}
+use lib.ListN.{replicate}
 use Rattle.base.specs.Choice.{pick}
-use Rattle.word.specs.declared.Relation.{Relation}
-use Rattle.word.specs.Word.{Outcome, value, fault, sum, difference, product, negation, quotient, power, shiftLeft, shiftRight}
-use Rattle.word.specs.Word.{andBits, orBits, xorBits, notBits, related}
-use Rattle.sheet.specs.declared.Operator.{Operator}
-use Rattle.sheet.specs.declared.Operator.the-variants.{Plus, Minus, Times, Over, Power, Left, Right, And, Or, Unlike}
-use Rattle.sheet.specs.Sheet.{Expression, word, constant, negated, inverted, binary, Simple, set, send, goto}
-use Rattle.sheet.specs.Sheet.{Instruction, simple, when, either, Sheet, sheet, Operand, inWord, itself, workedOut, operand}
+use Rattle.sheet.specs.Sheet.{Simple, Condition, Part, end, plain, when, either, count, Sheet, sheet}
+use Rattle.sheet.specs.Worth.{Counted, gives, faults, andThen, Store, Next, onward, at, doSimple}
+use Rattle.sheet.specs.Condition.{answer}
 
--- ---- what is worked out, with the count of its orders
+-- ---- the instructions by their numbers
 
--- what it comes to, and the orders of the path taken; or the fault, and the orders before it
-pub data Counted (A : Type 0) : Type 0 where
-  gives : A → ℕ → Counted A
-  faults : ℕ → ℕ → Counted A
+-- where it goes on: the number of an instruction, or one past the last, and how many SKIPs lie on the way there
+pub record Way : Type 0 where
+  pub number : ℕ
+  pub skips : ℕ
 
--- k orders before it
-abbrev pub behind : {A : Type 0} → ℕ → Counted A → Counted A
-behind k (gives a j) = gives a (k + j)
-behind k (faults n j) = faults n (k + j)
+-- what stands under a number: an instruction that is no IF, and where it goes on; or what an IF asks, where it goes on after a yes,
+-- and where after a no
+pub data Move : Type 0 where
+  deed : Simple → Way → Move
+  question : Condition → Way → Way → Move
 
--- one thing, then what follows from it
-abbrev pub andThen : {A B : Type 0} → Counted A → (A → Counted B) → Counted B
-andThen (gives a k) f = behind k (f a)
-andThen (faults n k) f = faults n k
+abbrev pub straight : ℕ → Way
+straight n = record { number = n; skips = 0 }
 
--- one order, which may be the one that faults
-abbrev pub byOrder : Outcome → Counted ℕ
-byOrder (value a) = gives a 1
-byOrder (fault n) = faults n 0
+-- one SKIP more on the way
+abbrev pub overSkip : Way → Way
+overSkip w = record { number = w .number; skips = suc (w .skips) }
 
--- ---- expressions: `ws` gives the value of each word by its number
+-- the way to the instructions l, the first of which has the number n; where there is none, the way w behind them: "the
+-- instruction after the whole IF, and so on outwards, or the end"
+abbrev pub wayTo : ℕ → Way → Part → Way
+wayTo n w end = w
+wayTo n w (plain u l) = straight n
+wayTo n w (when c x l) = straight n
+wayTo n w (either c x y l) = straight n
 
-abbrev pub apply : Operator → ℕ → ℕ → Outcome
-apply Plus a b = value (sum a b)
-apply Minus a b = value (difference a b)
-apply Times a b = value (product a b)
-apply Over a b = quotient a b
-apply Power a b = power a b
-apply Left a b = shiftLeft a b
-apply Right a b = shiftRight a b
-apply And a b = value (andBits a b)
-apply Or a b = value (orBits a b)
-apply Unlike a b = value (xorBits a b)
+-- all that stands under numbers from n on; behind the last instruction the way goes on as w says. A first part ends with "the jump
+-- over an ELSE"
+unfoldable pub moves : ℕ → Way → Part → List Move
+moves n w end = []
+moves n w (plain u l) = deed u (wayTo (suc n) w l) ∷ moves (suc n) w l
+moves n w (when c x l) =
+    question c (straight (suc n)) (wayTo (suc n + count x) w l)
+    ∷ (moves (suc n) (wayTo (suc n + count x) w l) x ++ moves (suc n + count x) w l)
+moves n w (either c x y l) =
+    question c (straight (suc n)) (straight (suc n + count x))
+    ∷ (moves (suc n) (overSkip (wayTo (suc n + count x + count y) w l)) x
+    ++ (moves (suc n + count x) (wayTo (suc n + count x + count y) w l) y ++ moves (suc n + count x + count y) w l))
 
--- "Operands are worked out left first." A plain right operand takes no order of its own; another one takes an order that
--- keeps the left operand, its own orders, and two that bring both together
-abbrev pub both : {A : Type 0} → (ℕ → ℕ → Counted A) → List ℕ → Operand → Counted ℕ → Counted ℕ → Counted A
-both f ws (inWord w) left right = andThen left (λ a. f a (getD ws w 0))
-both f ws (itself n) left right = andThen left (λ a. f a n)
-both f ws workedOut left right = andThen left (λ a. andThen (behind 1 right) (λ b. behind 2 (f a b)))
+abbrev pub view : Part → List Move
+view x = moves 1 (straight (suc (count x))) x
 
-unfoldable pub worth : List ℕ → Expression → Counted ℕ
-worth ws (word w) = gives (getD ws w 0) 1
-worth ws (constant n) = gives n 1
-worth ws (negated e) = andThen (worth ws e) (λ a. gives (negation a) 1)
-worth ws (inverted e) = andThen (worth ws e) (λ a. gives (notBits a) 1)
-worth ws (binary o l r) = both (λ a b. byOrder (apply o a b)) ws (operand r) (worth ws l) (worth ws r)
+-- ---- what an instruction does
 
--- a comparison: whether the relation holds. Its orders are one that compares and one that branches
-abbrev pub holds : List ℕ → Relation → Expression → Expression → Counted Bool
-holds ws r a b = both (λ x y. gives (related r x y) 2) ws (operand b) (worth ws a) (worth ws b)
+-- "a SKIP counts with the instruction done just before it"
+abbrev pub goOn : Way → Next → Counted Next
+goOn w (onward m) = gives (at (w .number) m) (w .skips)
+goOn w (at s m) = gives (at s m) 0
 
--- ---- instructions
-
--- the variables by their words ("Words 0 and 1 of the frame are the link words"), and the numbers sent
-pub record Store : Type 0 where
-  pub words : List ℕ
-  pub sent : List ℕ
-
--- where it goes on: at the instruction behind, or at instruction s
-pub data Next : Type 0 where
-  onward : Store → Next
-  at : ℕ → Store → Next
-
--- "Faults: .. 4 SEND with the output full": the output has room for that many numbers
-unfoldable pub sending : ℕ → Store → ℕ → Counted Next
-sending room m a =
-    pick
-    (ltb (length (m .sent)) room)
-    (gives (onward (record { words = m .words; sent = m .sent ++ a ∷ [] })) 1)
-    (faults 4 0)
-
-abbrev pub doSimple : ℕ → Store → Simple → Counted Next
-doSimple room m (set w e) =
-    andThen (worth (m .words) e) (λ a. gives (onward (record { words = put (m .words) w a; sent = m .sent })) 1)
-doSimple room m (send e) = andThen (worth (m .words) e) (λ a. sending room m a)
-doSimple room m (goto s) = gives (at s m) 1
-
--- the JMP that closes the first u of two is an order of its path, where u does not jump itself
-abbrev pub closing : Next → Counted Next
-closing (onward m) = gives (onward m) 1
-closing (at s m) = gives (at s m) 0
-
-abbrev pub doInstruction : ℕ → Store → Instruction → Counted Next
-doInstruction room m (simple u) = doSimple room m u
-doInstruction room m (when r a b u) =
-    andThen (holds (m .words) r a b) (λ yes. pick yes (doSimple room m u) (gives (onward m) 0))
-doInstruction room m (either r a b u w) =
-    andThen (holds (m .words) r a b) (λ yes. pick yes (andThen (doSimple room m u) closing) (doSimple room m w))
+-- "an IF is done once its condition is answered"
+abbrev pub doMove : ℕ → Store → Move → Counted Next
+doMove room m (deed u w) = andThen (doSimple room m u) (goOn w)
+doMove room m (question c yes-way no-way) =
+    andThen (answer (m .words) c) (λ holds. pick holds (goOn yes-way (onward m)) (goOn no-way (onward m)))
 
 -- ---- programs
 
@@ -127,19 +87,19 @@ moved p (faults n k) = record { next = p .next; store = p .store; count = p .cou
 abbrev pub stopped : Progress → Progress
 stopped p = record { next = p .next; store = p .store; count = p .count + 1; ending = 20 }
 
--- the instruction with the number s, from 1, if there is one, or the end of the program
-unfoldable pub instructionAt : {A : Type 0} → ℕ → List Instruction → (Instruction → A) → A → A
-instructionAt s [] f end = end
-instructionAt zero (i ∷ is) f end = end
-instructionAt (suc zero) (i ∷ is) f end = f i
-instructionAt (suc (suc s)) (i ∷ is) f end = instructionAt (suc s) is f end
+-- what stands under the number s, from 1, if it is an instruction's, or the end of the program
+unfoldable pub moveAt : {A : Type 0} → ℕ → List Move → (Move → A) → A → A
+moveAt zero l f stop = stop
+moveAt (suc s) [] f stop = stop
+moveAt (suc zero) (m ∷ l) f stop = f m
+moveAt (suc (suc s)) (m ∷ l) f stop = moveAt (suc s) l f stop
 
 -- one instruction more, or the end; what has ended stays
-unfoldable pub further : ℕ → List Instruction → Progress → Progress
-further room is p =
+unfoldable pub further : ℕ → List Move → Progress → Progress
+further room l p =
     pick
     (eqb (p .ending) 0)
-    (instructionAt (p .next) is (λ i. moved p (doInstruction room (p .store) i)) (stopped p))
+    (moveAt (p .next) l (λ m. moved p (doMove room (p .store) m)) (stopped p))
     p
 
 -- "Words start at 0."
@@ -148,8 +108,8 @@ beginning v = record { next = 1; store = record { words = replicate (v + 2) 0; s
 
 -- the program after k instructions, the end counted as one
 unfoldable pub after : ℕ → ℕ → Sheet → Progress
-after zero room (sheet v is) = beginning v
-after (suc k) room (sheet v is) = further room is (after k room (sheet v is))
+after zero room (sheet v x) = beginning v
+after (suc k) room (sheet v x) = further room (view x) (after k room (sheet v x))
 
 -- q counts some orders more than p
 pub record Adds (p q : Progress) : Type 0 where

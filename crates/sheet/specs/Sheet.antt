@@ -1,7 +1,6 @@
 -- Sheets, document 01 ("Sheet text"): a program without the spelling of its source. "Sheet" is document 01's word for it.
--- Comments in quotes are document 01's words.
-use Prim.Native.Nat.{ℕ}
-use mathlib.Core.List.{List}
+-- Comments in quotes are the words of document 01 and of 02, L1.
+use Prim.Native.Nat.{ℕ, suc, _+_}
 use Rattle.word.specs.declared.Relation.{Relation}
 use Rattle.sheet.specs.declared.Operator.{Operator}
 
@@ -13,27 +12,40 @@ pub data Expression : Type 0 where
   inverted : Expression → Expression
   binary : Operator → Expression → Expression → Expression
 
--- "`SET` word expr, `SEND` expr, `GOTO` s": the instructions that can be part of an IF, document 01's u
+-- "`SET` word expr, `SEND` expr, `GOTO` s": the instructions that are no IF, document 01's u
 pub data Simple : Type 0 where
   set : ℕ → Expression → Simple
   send : Expression → Simple
   goto : ℕ → Simple
 
--- "or `IF` rel expr expr `THEN` u, with `ELSE` u where there is one"
-pub data Instruction : Type 0 where
-  simple : Simple → Instruction
-  when : Relation → Expression → Expression → Simple → Instruction
-  either : Relation → Expression → Expression → Simple → Simple → Instruction
+-- what an IF asks
+pub data Condition : Type 0 where
+  compares : Relation → Expression → Expression → Condition
+
+-- a list of instructions: the whole program, or a part of an IF. It is at its end; or it has one of these instructions and what
+-- follows; or an IF with its part, or with both its parts, and what follows
+pub data Part : Type 0 where
+  end : Part
+  plain : Simple → Part → Part
+  when : Condition → Part → Part → Part
+  either : Condition → Part → Part → Part → Part
 
 -- "V and its instructions in order"
 pub data Sheet : Type 0 where
-  sheet : ℕ → List Instruction → Sheet
+  sheet : ℕ → Part → Sheet
 
 abbrev pub variables : Sheet → ℕ
-variables (sheet v is) = v
+variables (sheet v x) = v
 
-abbrev pub instructions : Sheet → List Instruction
-instructions (sheet v is) = is
+abbrev pub instructions : Sheet → Part
+instructions (sheet v x) = x
+
+-- "Sheet numbers count every instruction, nested ones and the IF itself included"
+unfoldable pub count : Part → ℕ
+count end = 0
+count (plain u l) = suc (count l)
+count (when c x l) = suc (count x + count l)
+count (either c x y l) = suc (count x + count y + count l)
 
 -- "A variable or constant is plain": what an operand is to the order that takes it
 pub data Operand : Type 0 where
@@ -48,13 +60,14 @@ operand (negated e) = workedOut
 operand (inverted e) = workedOut
 operand (binary o l r) = workedOut
 
--- an instruction with GOTO `to` s in the place of GOTO s
+-- with GOTO `to` s in the place of each GOTO s
 abbrev pub retarget : (ℕ → ℕ) → Simple → Simple
 retarget to (set w e) = set w e
 retarget to (send e) = send e
 retarget to (goto s) = goto (to s)
 
-abbrev pub retargetOne : (ℕ → ℕ) → Instruction → Instruction
-retargetOne to (simple u) = simple (retarget to u)
-retargetOne to (when r a b u) = when r a b (retarget to u)
-retargetOne to (either r a b u w) = either r a b (retarget to u) (retarget to w)
+unfoldable pub retargetPart : (ℕ → ℕ) → Part → Part
+retargetPart to end = end
+retargetPart to (plain u l) = plain (retarget to u) (retargetPart to l)
+retargetPart to (when c x l) = when c (retargetPart to x) (retargetPart to l)
+retargetPart to (either c x y l) = either c (retargetPart to x) (retargetPart to y) (retargetPart to l)

@@ -16,15 +16,18 @@ pub enum Operator {
     Unlike,
 }
 
-// A field: a node of an expression, or a word of an instruction with the number or the relation behind it.
+// A field: a node of an expression, a relation, or a word of an instruction with the number behind it. ELSE, START, FINISH
+// and the fields that begin an instruction begin a line of the sheet's text.
 pub enum Field {
     Else,
-    Then,
+    Start,
+    Finish,
+    If,
     Send,
     Neg,
     Not,
     Binary(Operator),
-    If(Relation),
+    Compare(Relation),
     Word(u32),
     Constant(u32),
     Set(u32),

@@ -1,14 +1,14 @@
--- The fields of a sheet in memory: two arrays, the numbers below and what the fields carry. No text has these numbers.
-use Prim.Native.Nat.{ℕ, zero, suc, _+_, _*_}
+-- The fields of a sheet in memory, where each is one number. No text has these numbers.
+use Prim.Native.Nat.{ℕ, zero, suc, _+_, _*_, _/_, _%_}
 use mathlib.Core.List.{List, [], _∷_, _++_, map}
-use lib.ListN.{getD}
+use lib.ListN.{getD, drop}
 use Rattle.word.specs.declared.Relation.{Relation}
 use Rattle.word.specs.declared.Relation.the-variants.{Equal, Unequal, Less, AtMost, Greater, AtLeast}
 use Rattle.order.specs.Limits.{mostOrders}
 use Rattle.sheet.specs.declared.Operator.{Operator}
 use Rattle.sheet.specs.declared.Operator.the-variants.{Plus, Minus, Times, Over, Power, Left, Right, And, Or, Unlike}
 use Rattle.sheet.specs.declared.Field.{Field}
-use Rattle.sheet.specs.declared.Field.the-variants.{Else, Then, Send, Neg, Not, Binary, If, Word, Constant, Set, Goto}
+use Rattle.sheet.specs.declared.Field.the-variants.{Else, Start, Finish, If, Send, Neg, Not, Binary, Compare, Word, Constant, Set, Goto}
 
 abbrev pub operatorNumber : Operator → ℕ
 operatorNumber Plus = 0
@@ -32,25 +32,29 @@ relationNumber AtLeast = 5
 
 abbrev pub kind : Field → ℕ
 kind Else = 0
-kind Then = 1
-kind Send = 2
-kind Neg = 3
-kind Not = 4
-kind (Binary o) = 5 + operatorNumber o
-kind (If r) = 15 + relationNumber r
-kind (Word w) = 21
-kind (Constant n) = 22
-kind (Set w) = 23
-kind (Goto s) = 24
+kind Start = 1
+kind Finish = 2
+kind If = 3
+kind Send = 4
+kind Neg = 5
+kind Not = 6
+kind (Binary o) = 7 + operatorNumber o
+kind (Compare r) = 17 + relationNumber r
+kind (Word w) = 23
+kind (Constant n) = 24
+kind (Set w) = 25
+kind (Goto s) = 26
 
 abbrev pub carried : Field → ℕ
 carried Else = 0
-carried Then = 0
+carried Start = 0
+carried Finish = 0
+carried If = 0
 carried Send = 0
 carried Neg = 0
 carried Not = 0
 carried (Binary o) = 0
-carried (If r) = 0
+carried (Compare r) = 0
 carried (Word w) = w
 carried (Constant n) = n
 carried (Set w) = w
@@ -65,22 +69,33 @@ relations = Equal ∷ Unequal ∷ Less ∷ AtMost ∷ Greater ∷ AtLeast ∷ []
 
 -- those that carry nothing, and those that carry a number
 abbrev pub bareFields : List Field
-bareFields = Else ∷ Then ∷ Send ∷ Neg ∷ Not ∷ []
+bareFields = Else ∷ Start ∷ Finish ∷ If ∷ Send ∷ Neg ∷ Not ∷ []
 
 abbrev pub numberedFields : List (ℕ → Field)
 numberedFields = Word ∷ Constant ∷ Set ∷ Goto ∷ []
 
 unfoldable pub shapes : List (ℕ → Field)
 shapes =
-    map (λ f v. f) bareFields ++ map (λ o v. Binary o) operators ++ map (λ r v. If r) relations ++ numberedFields
+    map (λ f v. f) bareFields ++ map (λ o v. Binary o) operators ++ map (λ r v. Compare r) relations ++ numberedFields
 
 unfoldable pub fieldOf : ℕ → ℕ → Field
 fieldOf k v = getD shapes k (λ v. Else) v
 
--- the n fields from place k on that two arrays hold; ELSE where an array has ended
-unfoldable pub fieldsFrom : ℕ → ℕ → List ℕ → List ℕ → List Field
-fieldsFrom k zero ks vs = []
-fieldsFrom k (suc n) ks vs = fieldOf (getD ks k 0) (getD vs k 0) ∷ fieldsFrom (suc k) n ks vs
+-- a field as one number: that of its kind, times 2^32, and what it carries
+abbrev pub fieldWord : Field → ℕ
+fieldWord f = kind f * 4294967296 + carried f
+
+abbrev pub fieldIn : ℕ → Field
+fieldIn w = fieldOf (w / 4294967296) (w % 4294967296)
+
+-- the fields that an array holds from a place on
+abbrev pub fieldsAt : ℕ → List ℕ → List Field
+fieldsAt at ws = map fieldIn (drop at ws)
+
+-- the n fields from place k on that an array holds; ELSE where it has ended
+unfoldable pub fieldsFrom : ℕ → ℕ → List ℕ → List Field
+fieldsFrom k zero ws = []
+fieldsFrom k (suc n) ws = fieldIn (getD ws k 0) ∷ fieldsFrom (suc k) n ws
 
 -- the most fields that are looked at: no order of a translation stands for more than two, so a sheet within the limits has
 -- fewer

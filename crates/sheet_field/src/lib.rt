@@ -1,5 +1,5 @@
-// A sheet in memory: two arrays, the numbers of its fields and what these carry, in the order of its text. The number of a field,
-// and back: `kind` and `fieldOf` of specs/Memory.antt.
+// A sheet in memory: an array of its fields, each one number, in the order of its text. The number of a field, and back: `fieldWord`
+// and `fieldIn` of specs/Memory.antt.
 use order::Operation;
 use sheet::Field;
 use sheet::Operator;
@@ -8,10 +8,11 @@ ghost use mathlib.Core.Path.{_≡_};
 ghost use Prim.Native.Nat.{_<_};
 ghost use lib.ListN.{getD};
 ghost use Rattle.word.specs.declared.Relation.the-variants.{AtLeast};
-ghost use Rattle.sheet.specs.Translation.{operation, opposite};
+ghost use Rattle.sheet.specs.Orders.{operation, opposite};
 ghost use Rattle.sheet.specs.declared.Operator.the-variants.{Unlike};
 ghost use Rattle.sheet.specs.declared.Field.the-variants.{Not, Goto};
 ghost use Rattle.sheet_field.specs.Memory.{operatorNumber, relationNumber, kind, carried, operators, relations, bareFields, numberedFields, fieldOf};
+ghost use Rattle.sheet_field.specs.Memory.{fieldWord, fieldIn};
 
 // `mostFields` of specs/Memory.antt.
 pub const MOST_FIELDS: usize = 2048;
@@ -48,22 +49,24 @@ pub fn relation_number(s: Relation) -> u8
     }
 }
 
-// The number of a field.
+// The number of a field's kind.
 pub fn kind_of(f: Field) -> u8
     ensures { λ r. ⌜ r ≡ kind f ⌝ }
 {
     match f {
         Field::Else => 0,
-        Field::Then => 1,
-        Field::Send => 2,
-        Field::Neg => 3,
-        Field::Not => 4,
-        Field::Binary(o) => 5 + operator_number(o),
-        Field::If(s) => 15 + relation_number(s),
-        Field::Word(_) => 21,
-        Field::Constant(_) => 22,
-        Field::Set(_) => 23,
-        Field::Goto(_) => 24,
+        Field::Start => 1,
+        Field::Finish => 2,
+        Field::If => 3,
+        Field::Send => 4,
+        Field::Neg => 5,
+        Field::Not => 6,
+        Field::Binary(o) => 7 + operator_number(o),
+        Field::Compare(s) => 17 + relation_number(s),
+        Field::Word(_) => 23,
+        Field::Constant(_) => 24,
+        Field::Set(_) => 25,
+        Field::Goto(_) => 26,
     }
 }
 
@@ -73,12 +76,14 @@ pub fn value_of(f: Field) -> u32
 {
     match f {
         Field::Else => 0,
-        Field::Then => 0,
+        Field::Start => 0,
+        Field::Finish => 0,
+        Field::If => 0,
         Field::Send => 0,
         Field::Neg => 0,
         Field::Not => 0,
         Field::Binary(_) => 0,
-        Field::If(_) => 0,
+        Field::Compare(_) => 0,
         Field::Word(w) => w,
         Field::Constant(n) => n,
         Field::Set(w) => w,
@@ -118,20 +123,22 @@ pub fn relation(k: u8) -> Relation
     }
 }
 
-// The field with a number below 5, which carries nothing; NOT for any other.
+// The field with a number below 7, which carries nothing; NOT for any other.
 fn bare_field(k: u8) -> Field
     ensures { λ r. ⌜ r ≡ getD bareFields k Not ⌝ }
 {
     match k {
         0 => Field::Else,
-        1 => Field::Then,
-        2 => Field::Send,
-        3 => Field::Neg,
+        1 => Field::Start,
+        2 => Field::Finish,
+        3 => Field::If,
+        4 => Field::Send,
+        5 => Field::Neg,
         _ => Field::Not,
     }
 }
 
-// The field with a number from 21 to 24, which carries the number v; GOTO for any other.
+// The field with a number from 23 to 26, which carries the number v; GOTO for any other.
 fn numbered_field(k: u8, v: u32) -> Field
     ensures { λ r. ⌜ r ≡ getD numberedFields k Goto v ⌝ }
 {
@@ -143,23 +150,41 @@ fn numbered_field(k: u8, v: u32) -> Field
     }
 }
 
-// The field with a number and what it carries; ELSE where no field has the number.
-pub fn field_of(k: u8, v: u32) -> Field
+// The field of a kind and what it carries; ELSE where no field has the kind.
+fn field_of(k: u8, v: u32) -> Field
     ensures { λ r. ⌜ r ≡ fieldOf k v ⌝ }
 {
-    if k < 5 {
+    if k < 7 {
         return bare_field(k);
     }
-    if k < 15 {
-        return Field::Binary(operator(k - 5));
+    if k < 17 {
+        return Field::Binary(operator(k - 7));
     }
-    if k < 21 {
-        return Field::If(relation(k - 15));
+    if k < 23 {
+        return Field::Compare(relation(k - 17));
     }
-    if k < 25 {
-        return numbered_field(k - 21, v);
+    if k < 27 {
+        return numbered_field(k - 23, v);
     }
     Field::Else
+}
+
+// A field as one number.
+pub fn field_word(f: Field) -> u64
+    ensures { λ r. ⌜ r ≡ fieldWord f ⌝ }
+{
+    kind_of(f) as u64 * 4294967296 + value_of(f) as u64
+}
+
+// The field that a number stands for.
+pub fn field_in(w: u64) -> Field
+    ensures { λ r. ⌜ r ≡ fieldIn w ⌝ }
+{
+    let k = w / 4294967296;
+    if 27 <= k {
+        return Field::Else;
+    }
+    field_of(k as u8, (w % 4294967296) as u32)
 }
 
 // The operation of an operator's order.
@@ -194,11 +219,12 @@ pub fn opposite_of(s: Relation) -> Relation
     }
 }
 
-// The field at a place of two arrays; ELSE where an array has ended.
-pub fn field_at(kinds: &[u8], values: &[u32], at: usize) -> Field
-    ensures { λ r. ⌜ r ≡ fieldOf (getD (now (kinds .entry)) at 0) (getD (now (values .entry)) at 0) ⌝ }
+// The field at a place of an array; ELSE where it has ended.
+pub fn field_at(fields: &[u64], at: usize) -> Field
+    ensures { λ r. ⌜ r ≡ fieldIn (getD (now (fields .entry)) at 0) ⌝ }
 {
-    let k = base::byte_at(kinds, at);
-    let v = base::word_at(values, at);
-    field_of(k, v)
+    if at < fields.len() {
+        return field_in(fields[at]);
+    }
+    Field::Else
 }

@@ -1,10 +1,8 @@
 -- Sheet text determines the sheet: no two sheets within the limits have one text.
 use mathlib.Core.Path.{_≡_, sym, ap, ap₂, _∙_}
-use mathlib.Core.Bool.{false}
-use lib.ListN.{length}
 use native.Mathlib.Omega.{arith}
-use Rattle.sheet.specs.Sheet.{Sheet, sheet}
-use Rattle.sheet.specs.Fields.{fieldsOfAll, sheetText}
+use Rattle.sheet.specs.Sheet.{Sheet, sheet, count}
+use Rattle.sheet.specs.Fields.{partFields, sheetText}
 use Rattle.sheet.specs.Within.{Within}
 use Rattle.sheet_text.proofs.Flat.{flat-sheet}
 use Rattle.sheet_text.proofs.FieldsRead.{instructionsOf, fields-read}
@@ -12,16 +10,16 @@ use Rattle.sheet_text.proofs.SmallNumbers.{sheet-small}
 use Rattle.sheet_text.proofs.FieldsText.{closed, fields-told, header-told}
 
 pub text-determines : (s q : Sheet) → Within s → Within q → sheetText s ≡ sheetText q → s ≡ q
-text-determines (sheet v is) (sheet w js) within within-too e =
-    let flat = flat-sheet (sheet v is) ∙ e ∙ sym (flat-sheet (sheet w js)) in
+text-determines (sheet v x) (sheet w y) within within-too e =
+    let flat = flat-sheet (sheet v x) ∙ e ∙ sym (flat-sheet (sheet w y)) in
     let told =
-    header-told v w (length is) (length js) _ _
+    header-told v w (count x) (count y) _ _
     (omega (arith, within .few-variables))
     (omega (arith, within-too .few-variables))
-    (closed false (fieldsOfAll is))
-    (closed false (fieldsOfAll js))
+    (closed (partFields x))
+    (closed (partFields y))
     flat in
-    let small = sheet-small (sheet v is) within in
-    let small-too = sheet-small (sheet w js) within-too in
-    let fields = fields-told false false (fieldsOfAll is) (fieldsOfAll js) small small-too (told .1) in
-    ap₂ sheet (told .0) (sym (fields-read is) ∙ ap instructionsOf fields ∙ fields-read js)
+    let small = sheet-small (sheet v x) within in
+    let small-too = sheet-small (sheet w y) within-too in
+    let fields = fields-told (partFields x) (partFields y) small small-too (told .1) in
+    ap₂ sheet (told .0) (sym (fields-read x) ∙ ap instructionsOf fields ∙ fields-read y)

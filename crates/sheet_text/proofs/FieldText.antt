@@ -18,7 +18,7 @@ use Rattle.text.proofs.Decimal.{numeral-decimal}
 use Rattle.sheet.specs.declared.Operator.{Operator}
 use Rattle.sheet.specs.declared.Operator.the-variants.{Plus, Minus, Times, Over, Power, Left, Right, And, Or, Unlike}
 use Rattle.sheet.specs.declared.Field.{Field}
-use Rattle.sheet.specs.declared.Field.the-variants.{Else, Then, Send, Neg, Not, Binary, If, Word, Constant, Set, Goto}
+use Rattle.sheet.specs.declared.Field.the-variants.{Else, Start, Finish, If, Send, Neg, Not, Binary, Compare, Word, Constant, Set, Goto}
 use Rattle.sheet.specs.Fields.{fieldText}
 use Rattle.sheet_field.specs.Memory.{carried}
 
@@ -74,20 +74,20 @@ amongBare (f ∷ fs) l = onFront (fixed (fieldText f) l) (λ _ r. found f r) (am
 abbrev numbered : List ℕ → (ℕ → Field) → List ℕ → Front Field → Front Field
 numbered name field l other = onFront (fixed name l) (λ _ r. onFront (numberAt r) (λ n r₁. found (field n) r₁) missing) other
 
--- the fields that carry no number, each before those whose text its own begins with
+-- the fields that carry no number, each before those whose text its own begins with (`>>` before `>`)
 bare : List Field
 bare =
-    If AtLeast
-    ∷ If Greater
-    ∷ If AtMost
-    ∷ If Less
-    ∷ If Unequal
-    ∷ If Equal
+    Binary Right
+    ∷ Binary Left
+    ∷ Compare AtLeast
+    ∷ Compare Greater
+    ∷ Compare AtMost
+    ∷ Compare Less
+    ∷ Compare Unequal
+    ∷ Compare Equal
     ∷ Binary Unlike
     ∷ Binary Or
     ∷ Binary And
-    ∷ Binary Right
-    ∷ Binary Left
     ∷ Binary Power
     ∷ Binary Over
     ∷ Binary Times
@@ -96,7 +96,9 @@ bare =
     ∷ Not
     ∷ Neg
     ∷ Send
-    ∷ Then
+    ∷ If
+    ∷ Finish
+    ∷ Start
     ∷ Else
     ∷ []
 
@@ -122,14 +124,14 @@ operator-read And l = (refl, refl)
 operator-read Or l = (refl, refl)
 operator-read Unlike l = (refl, refl)
 
-if-read : (r : Relation) (l : List ℕ) → Told (If r) l
+relation-read : (r : Relation) (l : List ℕ) → Told (Compare r) l
 unfolding fieldAt amongBare bare fixed onFront pick bytes
-if-read Equal l = (refl, refl)
-if-read Unequal l = (refl, refl)
-if-read Less l = (refl, refl)
-if-read AtMost l = (refl, refl)
-if-read Greater l = (refl, refl)
-if-read AtLeast l = (refl, refl)
+relation-read Equal l = (refl, refl)
+relation-read Unequal l = (refl, refl)
+relation-read Less l = (refl, refl)
+relation-read AtMost l = (refl, refl)
+relation-read Greater l = (refl, refl)
+relation-read AtLeast l = (refl, refl)
 
 by-close : (f : Field) → ((l : List ℕ) → Told f l) → (l : List ℕ) → Closed l → fieldAt (fieldText f ++ l) ≡ found f l
 by-close f told l (tab r) = told r .0
@@ -138,12 +140,14 @@ by-close f told l (newline r) = told r .1
 pub field-read : (f : Field) (l : List ℕ) → Closed l → carried f ≤ 2147483647 → fieldAt (fieldText f ++ l) ≡ found f l
 unfolding fieldAt amongBare bare fixed onFront pick bytes
 field-read Else l c small = by-close Else (λ r. (refl, refl)) l c
-field-read Then l c small = by-close Then (λ r. (refl, refl)) l c
+field-read Start l c small = by-close Start (λ r. (refl, refl)) l c
+field-read Finish l c small = by-close Finish (λ r. (refl, refl)) l c
+field-read If l c small = by-close If (λ r. (refl, refl)) l c
 field-read Send l c small = by-close Send (λ r. (refl, refl)) l c
 field-read Neg l c small = by-close Neg (λ r. (refl, refl)) l c
 field-read Not l c small = by-close Not (λ r. (refl, refl)) l c
 field-read (Binary o) l c small = by-close (Binary o) (operator-read o) l c
-field-read (If r) l c small = by-close (If r) (if-read r) l c
+field-read (Compare r) l c small = by-close (Compare r) (relation-read r) l c
 field-read (Word w) l c small = rw (number-read w l c small) refl
 field-read (Constant n) l c small = rw (number-read n l c small) refl
 field-read (Set w) l c small = rw (number-read w l c small) refl

@@ -1,84 +1,85 @@
 -- The fields of a sheet are read back from the last to the first: what stands behind a field has been put together by then,
--- so prefix order needs no count of what is to come. The fields of a list of instructions are read as those instructions.
-use mathlib.Core.Path.{_≡_, refl, ap, _∙_}
-use mathlib.Core.Bool.{Bool, true, false}
-use mathlib.Core.List.{List, [], _∷_, _++_, map, append-assoc}
-use Rattle.base.specs.Choice.{pick}
-use Rattle.word.specs.declared.Relation.{Relation}
+-- so prefix order needs no count of what is to come. The fields of instructions are read as those instructions.
+use mathlib.Core.Path.{_≡_, refl, sym, ap, ap₂, _∙_}
+use mathlib.Core.List.{List, [], _∷_, _++_, append-assoc, append-nil}
 use Rattle.sheet.specs.declared.Field.{Field}
-use Rattle.sheet.specs.declared.Field.the-variants.{Else, Then, Send, Neg, Not, Binary, If, Word, Constant, Set, Goto}
+use Rattle.sheet.specs.declared.Field.the-variants.{Else, Start, Finish, If, Send, Neg, Not, Binary, Compare, Word, Constant, Set, Goto}
 use Rattle.sheet.specs.Sheet.{Expression, word, constant, negated, inverted, binary, Simple, set, send, goto}
-use Rattle.sheet.specs.Sheet.{Instruction, simple, when, either}
-use Rattle.sheet.specs.Fields.{expressionFields, simpleFields, instructionFields, fieldsOfAll}
+use Rattle.sheet.specs.Sheet.{Condition, compares, Part, end, plain, when, either}
+use Rattle.sheet.specs.Fields.{expressionFields, simpleFields, conditionFields, partFields}
 use Rattle.sheet_text.proofs.Flat.{when-fields, either-fields}
 
 -- ---- what has been put together, the foremost first
 
+-- an expression, a condition, the instructions up to the end of their part, or those of a second part
 data Item : Type 0 where
   node : Expression → Item
-  part : Simple → Item
-  otherwise : Simple → Item
-  whole : Instruction → Item
+  asked : Condition → Item
+  rest : Part → Item
+  second : Part → Item
 
 -- the parts of an item, and anything where it has none
 abbrev expressionOf : Item → Expression
 expressionOf (node e) = e
-expressionOf (part u) = constant 0
-expressionOf (otherwise u) = constant 0
-expressionOf (whole i) = constant 0
+expressionOf (asked c) = constant 0
+expressionOf (rest x) = constant 0
+expressionOf (second x) = constant 0
 
-abbrev simpleOf : Item → Simple
-simpleOf (node e) = goto 0
-simpleOf (part u) = u
-simpleOf (otherwise u) = u
-simpleOf (whole i) = goto 0
-
-abbrev isElse : Item → Bool
-isElse (node e) = false
-isElse (part u) = false
-isElse (otherwise u) = true
-isElse (whole i) = false
-
-abbrev instructionOf : Item → Instruction
-instructionOf (node e) = simple (goto 0)
-instructionOf (part u) = simple u
-instructionOf (otherwise u) = simple (goto 0)
-instructionOf (whole i) = i
+abbrev partOf : Item → Part
+partOf (node e) = end
+partOf (asked c) = end
+partOf (rest x) = x
+partOf (second x) = x
 
 abbrev first : {A : Type 0} → (Item → A) → A → List Item → A
 first f a [] = a
 first f a (x ∷ s) = f x
 
-abbrev rest : List Item → List Item
-rest [] = []
-rest (x ∷ s) = s
+abbrev behind : List Item → List Item
+behind [] = []
+behind (x ∷ s) = s
 
 abbrev expression : List Item → Expression
 expression = first expressionOf (constant 0)
 
-abbrev instruction : List Item → Simple
-instruction = first simpleOf (goto 0)
+abbrev part : List Item → Part
+part = first partOf end
 
--- an IF, with ELSE where that comes behind its THEN
-abbrev conditional : Relation → Expression → Expression → Simple → List Item → List Item
-conditional r a b u s =
-    pick (first isElse false s) (whole (either r a b u (instruction s)) ∷ rest s) (whole (when r a b u) ∷ s)
+abbrev simple : Simple → List Item → List Item
+simple u s = rest (plain u (part s)) ∷ behind s
+
+-- an IF that asks c, with its first part, where a second part or what follows the IF comes behind that
+abbrev whole : Condition → Part → List Item → List Item
+whole c x [] = []
+whole c x (node e ∷ s) = []
+whole c x (asked d ∷ s) = []
+whole c x (rest l ∷ s) = rest (when c x l) ∷ s
+whole c x (second y ∷ s) = rest (either c x y (part s)) ∷ behind s
+
+abbrev conditional : List Item → List Item
+conditional [] = []
+conditional (node e ∷ s) = []
+conditional (asked c ∷ s) = whole c (part s) (behind s)
+conditional (rest x ∷ s) = []
+conditional (second x ∷ s) = []
 
 abbrev withField : Field → List Item → List Item
-withField Else s = otherwise (instruction s) ∷ rest s
-withField Then s = s
-withField Send s = part (send (expression s)) ∷ rest s
-withField Neg s = node (negated (expression s)) ∷ rest s
-withField Not s = node (inverted (expression s)) ∷ rest s
-withField (Binary o) s = node (binary o (expression s) (expression (rest s))) ∷ rest (rest s)
-withField (If r) s = conditional r (expression s) (expression (rest s)) (instruction (rest (rest s))) (rest (rest (rest s)))
+withField Else s = rest end ∷ second (part s) ∷ behind s
+withField Start s = s
+withField Finish s = rest end ∷ s
+withField If s = conditional s
+withField Send s = simple (send (expression s)) (behind s)
+withField Neg s = node (negated (expression s)) ∷ behind s
+withField Not s = node (inverted (expression s)) ∷ behind s
+withField (Binary o) s = node (binary o (expression s) (expression (behind s))) ∷ behind (behind s)
+withField (Compare r) s = asked (compares r (expression s) (expression (behind s))) ∷ behind (behind s)
 withField (Word w) s = node (word w) ∷ s
 withField (Constant n) s = node (constant n) ∷ s
-withField (Set w) s = part (set w (expression s)) ∷ rest s
-withField (Goto n) s = part (goto n) ∷ s
+withField (Set w) s = simple (set w (expression s)) (behind s)
+withField (Goto n) s = simple (goto n) s
 
 items : List Field → List Item
-items [] = []
+items [] = rest end ∷ []
 items (f ∷ fs) = withField f (items fs)
 
 -- ---- they are what the fields were made of
@@ -94,62 +95,60 @@ expression-items (binary o l r) fs =
     ∙ ap (withField (Binary o))
     (expression-items l (expressionFields r ++ fs) ∙ ap (λ s. node l ∷ s) (expression-items r fs))
 
-simple-items : (u : Simple) (fs : List Field) → items (simpleFields u ++ fs) ≡ part u ∷ items fs
+condition-items : (c : Condition) (fs : List Field) → items (conditionFields c ++ fs) ≡ asked c ∷ items fs
+unfolding items
+condition-items (compares r a b) fs =
+    ap (λ gs. withField (Compare r) (items gs)) (append-assoc (expressionFields a) (expressionFields b) fs)
+    ∙ ap (withField (Compare r))
+    (expression-items a (expressionFields b ++ fs) ∙ ap (λ s. node a ∷ s) (expression-items b fs))
+
+simple-items : (u : Simple) (fs : List Field) → items (simpleFields u ++ fs) ≡ simple u (items fs)
 unfolding items
 simple-items (set w e) fs = ap (withField (Set w)) (expression-items e fs)
 simple-items (send e) fs = ap (withField Send) (expression-items e fs)
 simple-items (goto n) fs = refl
 
-condition-items : (r : Relation) (a b : Expression) (fs : List Field)
-    → items (If r ∷ (expressionFields a ++ (expressionFields b ++ fs)))
-    ≡ conditional r a b (instruction (items fs)) (rest (items fs))
-unfolding items
-condition-items r a b fs =
-    ap (withField (If r)) (expression-items a (expressionFields b ++ fs) ∙ ap (λ s. node a ∷ s) (expression-items b fs))
+-- the instructions x with l behind them
+join : Part → Part → Part
+join end l = l
+join (plain u x) l = plain u (join x l)
+join (when c x y) l = when c x (join y l)
+join (either c x y z) l = either c x y (join z l)
 
-abbrev itemOf : Instruction → Item
-itemOf (simple u) = part u
-itemOf (when r a b u) = whole (when r a b u)
-itemOf (either r a b u w) = whole (either r a b u w)
+join-end : (x : Part) → join x end ≡ x
+unfolding join
+join-end end = refl
+join-end (plain u x) = ap (plain u) (join-end x)
+join-end (when c x y) = ap (when c x) (join-end y)
+join-end (either c x y z) = ap (either c x y) (join-end z)
 
--- an instruction, where what comes behind it does not begin with ELSE
-instruction-items : (i : Instruction) (fs : List Field) → first isElse false (items fs) ≡ false
-    → items (instructionFields i ++ fs) ≡ itemOf i ∷ items fs
-unfolding items pick
-instruction-items (simple u) fs no-else = simple-items u fs
-instruction-items (when r a b u) fs no-else =
-    ap items (when-fields r a b u fs)
-    ∙ condition-items r a b (Then ∷ (simpleFields u ++ fs))
-    ∙ ap (λ s. conditional r a b (instruction s) (rest s)) (simple-items u fs)
-    ∙ rw no-else refl
-instruction-items (either r a b u w) fs no-else =
-    ap items (either-fields r a b u w fs)
-    ∙ condition-items r a b (Then ∷ (simpleFields u ++ (Else ∷ (simpleFields w ++ fs))))
-    ∙ ap (λ s. conditional r a b (instruction s) (rest s))
-    (simple-items u (Else ∷ (simpleFields w ++ fs)) ∙ ap (λ s. part u ∷ withField Else s) (simple-items w fs))
+-- instructions, where l has been put together of what comes behind them
+part-items : (x : Part) (fs : List Field) (l : Part) (s : List Item) → items fs ≡ rest l ∷ s → items (partFields x ++ fs) ≡ rest (join x l) ∷ s
+unfolding items partFields join
+part-items end fs l s e = e
+part-items (plain u x) fs l s e =
+    ap items (append-assoc (simpleFields u) (partFields x) fs)
+    ∙ simple-items u (partFields x ++ fs)
+    ∙ ap (simple u) (part-items x fs l s e)
+part-items (when c x y) fs l s e =
+    let after = part-items y fs l s e in
+    let inner = part-items x (Finish ∷ (partFields y ++ fs)) end _ (ap (λ t. rest end ∷ t) after) in
+    ap items (when-fields c x y fs)
+    ∙ ap conditional (condition-items c (Start ∷ (partFields x ++ (Finish ∷ (partFields y ++ fs)))) ∙ ap (λ t. asked c ∷ t) inner)
+    ∙ ap (λ z. rest (when c z (join y l)) ∷ s) (join-end x)
+part-items (either c x y z) fs l s e =
+    let after = part-items z fs l s e in
+    let inner = part-items y (Finish ∷ (partFields z ++ fs)) end _ (ap (λ t. rest end ∷ t) after) in
+    let outer = part-items x (Else ∷ (partFields y ++ (Finish ∷ (partFields z ++ fs)))) end _ (ap (withField Else) inner) in
+    ap items (either-fields c x y z fs)
+    ∙ ap conditional
+    (condition-items c (Start ∷ (partFields x ++ (Else ∷ (partFields y ++ (Finish ∷ (partFields z ++ fs))))))
+    ∙ ap (λ t. asked c ∷ t) outer)
+    ∙ ap₂ (λ p q. rest (either c p q (join z l)) ∷ s) (join-end x) (join-end y)
 
-no-else : (is : List Instruction) → first isElse false (map itemOf is) ≡ false
-no-else [] = refl
-no-else (simple u ∷ is) = refl
-no-else (when r a b u ∷ is) = refl
-no-else (either r a b u w ∷ is) = refl
+pub instructionsOf : List Field → Part
+instructionsOf fs = part (items fs)
 
-all-items : (is : List Instruction) → items (fieldsOfAll is) ≡ map itemOf is
-unfolding items fieldsOfAll
-all-items [] = refl
-all-items (i ∷ is) =
-    let behind = all-items is in
-    instruction-items i (fieldsOfAll is) (ap (first isElse false) behind ∙ no-else is) ∙ ap (λ s. itemOf i ∷ s) behind
-
-items-back : (is : List Instruction) → map instructionOf (map itemOf is) ≡ is
-items-back [] = refl
-items-back (simple u ∷ is) = ap (λ js. simple u ∷ js) (items-back is)
-items-back (when r a b u ∷ is) = ap (λ js. when r a b u ∷ js) (items-back is)
-items-back (either r a b u w ∷ is) = ap (λ js. either r a b u w ∷ js) (items-back is)
-
-pub instructionsOf : List Field → List Instruction
-instructionsOf fs = map instructionOf (items fs)
-
-pub fields-read : (is : List Instruction) → instructionsOf (fieldsOfAll is) ≡ is
-unfolding instructionsOf
-fields-read is = ap (map instructionOf) (all-items is) ∙ items-back is
+pub fields-read : (x : Part) → instructionsOf (partFields x) ≡ x
+unfolding instructionsOf items
+fields-read x = ap (λ l. part (items l)) (sym (append-nil (partFields x))) ∙ ap part (part-items x [] end [] refl) ∙ join-end x

@@ -1,7 +1,6 @@
 -- The text of fields tells the fields: no two lists of them have one text.
 use Prim.Native.Nat.{ℕ, _≤_}
 use mathlib.Core.Path.{_≡_, refl, sym, ap, ap₂, _∙_}
-use mathlib.Core.Bool.{Bool, true, false}
 use mathlib.Core.List.{List, [], _∷_, _++_, append-assoc}
 use native.Mathlib.Omega.{arith}
 use lib.ListN.{drop}
@@ -15,44 +14,37 @@ use Rattle.text.proofs.Decimal.{numeral-decimal}
 use Rattle.sheet.specs.declared.Field.{Field}
 use Rattle.sheet.specs.Fields.{fieldText}
 use Rattle.sheet.proofs.Each.{Each}
-use Rattle.sheet_text.specs.TextOfFields.{begins, opens, fieldsText, headerText}
+use Rattle.sheet_text.specs.TextOfFields.{begins, fieldsText, headerText}
 use Rattle.sheet_text.proofs.FieldText.{Closed, tab, newline, afterDigits, after-number}
 use Rattle.sheet_text.proofs.FieldText.{fieldAt, field-read, no-field}
 use Rattle.sheet_text.proofs.SmallNumbers.{Small}
 
 -- each field is closed by what stands before the next, or by the last newline
-pub closed : (part : Bool) (fs : List Field) → Closed (fieldsText part fs)
+pub closed : (fs : List Field) → Closed (fieldsText fs)
 unfolding fieldsText pick
-closed part [] = newline []
-closed true (f ∷ fs) = tab (fieldText f ++ fieldsText (opens f) fs)
-closed false (f ∷ fs) =
-    by-test (begins f)
-    (λ y. rw y (newline (fieldText f ++ fieldsText (opens f) fs)))
-    (λ n. rw n (tab (fieldText f ++ fieldsText (opens f) fs)))
+closed [] = newline []
+closed (f ∷ fs) =
+    by-test (begins f) (λ y. rw y (newline (fieldText f ++ fieldsText fs))) (λ n. rw n (tab (fieldText f ++ fieldsText fs)))
 
 -- the first field of a text
-first-field : (part : Bool) (f : Field) (fs : List Field) → Small f
-    → fieldAt (drop 1 (fieldsText part (f ∷ fs))) ≡ found f (fieldsText (opens f) fs)
+first-field : (f : Field) (fs : List Field) → Small f → fieldAt (drop 1 (fieldsText (f ∷ fs))) ≡ found f (fieldsText fs)
 unfolding fieldsText
-first-field part f fs small = field-read f (fieldsText (opens f) fs) (closed (opens f) fs) small
+first-field f fs small = field-read f (fieldsText fs) (closed fs) small
 
-no-first-field : (part : Bool) → fieldAt (drop 1 (fieldsText part [])) ≡ missing
+no-first-field : fieldAt (drop 1 (fieldsText [])) ≡ missing
 unfolding fieldsText
-no-first-field part = no-field
+no-first-field = no-field
 
-pub fields-told : (p q : Bool) (fs gs : List Field) → Each Small fs → Each Small gs
-    → fieldsText p fs ≡ fieldsText q gs → fs ≡ gs
-fields-told p q [] [] x y e = refl
-fields-told p q [] (g ∷ gs) x y e =
-    never (sym (no-first-field p) ∙ ap (λ l. fieldAt (drop 1 l)) e ∙ first-field q g gs (y .0))
-fields-told p q (f ∷ fs) [] x y e =
-    never (sym (no-first-field q) ∙ ap (λ l. fieldAt (drop 1 l)) (sym e) ∙ first-field p f fs (x .0))
-fields-told p q (f ∷ fs) (g ∷ gs) x y e =
-    let same : found f (fieldsText (opens f) fs) ≡ found g (fieldsText (opens g) gs) =
-    sym (first-field p f fs (x .0)) ∙ ap (λ l. fieldAt (drop 1 l)) e ∙ first-field q g gs (y .0) in
+pub fields-told : (fs gs : List Field) → Each Small fs → Each Small gs → fieldsText fs ≡ fieldsText gs → fs ≡ gs
+fields-told [] [] x y e = refl
+fields-told [] (g ∷ gs) x y e = never (sym no-first-field ∙ ap (λ l. fieldAt (drop 1 l)) e ∙ first-field g gs (y .0))
+fields-told (f ∷ fs) [] x y e = never (sym no-first-field ∙ ap (λ l. fieldAt (drop 1 l)) (sym e) ∙ first-field f fs (x .0))
+fields-told (f ∷ fs) (g ∷ gs) x y e =
+    let same : found f (fieldsText fs) ≡ found g (fieldsText gs) =
+    sym (first-field f fs (x .0)) ∙ ap (λ l. fieldAt (drop 1 l)) e ∙ first-field g gs (y .0) in
     let field : f ≡ g = cc in
-    let behind : fieldsText (opens f) fs ≡ fieldsText (opens g) gs = cc in
-    ap₂ _∷_ field (fields-told (opens f) (opens g) fs gs (x .1) (y .1) behind)
+    let behind : fieldsText fs ≡ fieldsText gs = cc in
+    ap₂ _∷_ field (fields-told fs gs (x .1) (y .1) behind)
 
 -- ---- the header
 

@@ -21,79 +21,79 @@ use Rattle.sheet_field.proofs.Stored.{field-again, kind-below}
 
 -- the length of what stands before the number, by its digit
 abbrev pub frontLength : ℕ → ℕ
-frontLength k = getD (bytes "4443311112221124445451145") k 0 % 16
+frontLength k = getD (bytes "456243311112221121112121145") k 0 % 16
 
 -- the rule of the table, as computed over it, v being the number that is carried
 abbrev pub Rows : List ℕ → ℕ → Type 0
 Rows table v =
-    each (λ k. take (frontLength k) (drop (5 * k) table) ++ pick (ltb k 21) [] (decimal v)) 0 25
-    ≡ each (λ k. fieldText (fieldOf k v)) 0 25
+    each (λ k. take (frontLength k) (drop (6 * k) table) ++ pick (ltb k 23) [] (decimal v)) 0 27
+    ≡ each (λ k. fieldText (fieldOf k v)) 0 27
 
 -- the fields' texts themselves, cut before the number, are such a table
 abbrev front : ℕ → List ℕ
 front k = take (frontLength k) (fieldText (fieldOf k 0))
 
-texts-told : (v : ℕ) → each (λ k. front k ++ pick (ltb k 21) [] (decimal v)) 0 25 ≡ each (λ k. fieldText (fieldOf k v)) 0 25
+texts-told : (v : ℕ) → each (λ k. front k ++ pick (ltb k 23) [] (decimal v)) 0 27 ≡ each (λ k. fieldText (fieldOf k v)) 0 27
 unfolding each fieldOf shapes bytes digitsOf pick
 texts-told v = refl
 
-lengths-told : each (λ k. length (front k)) 0 25 ≡ each (λ k. frontLength k) 0 25
+lengths-told : each (λ k. length (front k)) 0 27 ≡ each (λ k. frontLength k) 0 27
 unfolding each fieldOf shapes bytes digitsOf pick
 lengths-told = refl
 
-short-lengths : each (λ k. ltb (frontLength k) 6) 0 25 ≡ each (λ k. true) 0 25
+short-lengths : each (λ k. ltb (frontLength k) 7) 0 27 ≡ each (λ k. true) 0 27
 unfolding each fieldOf shapes bytes digitsOf pick
 short-lengths = refl
 
 module _ (f : Field) (k : ℕ) (e : k ≡ kind f) where
-  pub own : k < 25
+  pub own : k < 27
   own = rw e (kind-below f)
 
   again : fieldOf k (carried f) ≡ f
   again = rw e (field-again f)
 
-  module _ (table : List ℕ) (all : Rows table (carried f)) (row : List ℕ) (is-row : row ≡ take (frontLength k) (drop (5 * k) table)) where
-    whole : row ++ pick (ltb k 21) [] (decimal (carried f)) ≡ fieldText f
+  module _ (table : List ℕ) (all : Rows table (carried f)) (row : List ℕ) (is-row : row ≡ take (frontLength k) (drop (6 * k) table)) where
+    whole : row ++ pick (ltb k 23) [] (decimal (carried f)) ≡ fieldText f
     whole =
         rw is-row
         (each-at
-        (λ j. take (frontLength j) (drop (5 * j) table) ++ pick (ltb j 21) [] (decimal (carried f)))
+        (λ j. take (frontLength j) (drop (6 * j) table) ++ pick (ltb j 23) [] (decimal (carried f)))
         (λ j. fieldText (fieldOf j (carried f)))
-        25
+        27
         all
         k
         own)
         ∙ ap fieldText again
 
-    pub put-bare : (p q : Placed) → k < 21 → q ≡ putAll row p → q ≡ putAll (fieldText f) p
+    pub put-bare : (p q : Placed) → k < 23 → q ≡ putAll row p → q ≡ putAll (fieldText f) p
     unfolding pick
-    put-bare p q h g = g ∙ ap (λ l. putAll l p) (sym (append-nil row) ∙ rw (lt-ltb k 21 h) at whole)
+    put-bare p q h g = g ∙ ap (λ l. putAll l p) (sym (append-nil row) ∙ rw (lt-ltb k 23 h) at whole)
 
-    pub put-numbered : (p q r : Placed) (n : ℕ) → 21 ≤ k → n ≡ carried f → q ≡ putAll row p → r ≡ putAll (decimal n) q → r ≡ putAll (fieldText f) p
+    pub put-numbered : (p q r : Placed) (n : ℕ) → 23 ≤ k → n ≡ carried f → q ≡ putAll row p → r ≡ putAll (decimal n) q → r ≡ putAll (fieldText f) p
     unfolding pick
     put-numbered p q r n h is-number g i =
-        rw (i, g, is-number) (sym (putAll-append row (decimal (carried f)) p)) ∙ ap (λ l. putAll l p) (rw (le-ltb k 21 h) at whole)
+        rw (i, g, is-number) (sym (putAll-append row (decimal (carried f)) p)) ∙ ap (λ l. putAll l p) (rw (le-ltb k 23 h) at whole)
 
-  counted : frontLength k + length (pick (ltb k 21) [] (decimal (carried f))) ≡ length (fieldText f)
+  counted : frontLength k + length (pick (ltb k 23) [] (decimal (carried f))) ≡ length (fieldText f)
   counted =
       let text =
-      each-at (λ j. front j ++ pick (ltb j 21) [] (decimal (carried f))) (λ j. fieldText (fieldOf j (carried f))) 25 (texts-told (carried f)) k own
+      each-at (λ j. front j ++ pick (ltb j 23) [] (decimal (carried f))) (λ j. fieldText (fieldOf j (carried f))) 27 (texts-told (carried f)) k own
       in
-      let count = each-at (λ j. length (front j)) (λ j. frontLength j) 25 lengths-told k own in
+      let count = each-at (λ j. length (front j)) (λ j. frontLength j) 27 lengths-told k own in
       sym
       (ap length (sym (ap fieldText again) ∙ sym text)
-      ∙ length-append (front k) (pick (ltb k 21) [] (decimal (carried f)))
-      ∙ ap (λ n. n + length (pick (ltb k 21) [] (decimal (carried f)))) count)
+      ∙ length-append (front k) (pick (ltb k 23) [] (decimal (carried f)))
+      ∙ ap (λ n. n + length (pick (ltb k 23) [] (decimal (carried f)))) count)
 
-  pub count-bare : k < 21 → frontLength k ≡ length (fieldText f)
+  pub count-bare : k < 23 → frontLength k ≡ length (fieldText f)
   unfolding pick
-  count-bare h = let c = rw (lt-ltb k 21 h) at counted in omega (arith, c)
+  count-bare h = let c = rw (lt-ltb k 23 h) at counted in omega (arith, c)
 
-  pub count-numbered : 21 ≤ k → frontLength k + length (decimal (carried f)) ≡ length (fieldText f)
+  pub count-numbered : 23 ≤ k → frontLength k + length (decimal (carried f)) ≡ length (fieldText f)
   unfolding pick
-  count-numbered h = rw (le-ltb k 21 h) at counted
+  count-numbered h = rw (le-ltb k 23 h) at counted
 
-  pub short-front : frontLength k ≤ 5
+  pub short-front : frontLength k ≤ 6
   short-front =
-      let short = each-at (λ j. ltb (frontLength j) 6) (λ j. true) 25 short-lengths k own in
-      omega (arith, ltb-true (frontLength k) 6 short)
+      let short = each-at (λ j. ltb (frontLength j) 7) (λ j. true) 27 short-lengths k own in
+      omega (arith, ltb-true (frontLength k) 7 short)

@@ -1,19 +1,21 @@
 -- The numbers in the fields of a sheet within the limits are at most 2147483647: each is a variable's word, a constant, or
 -- the number of an instruction, and no sheet has more instructions than its translation has orders.
 use Prim.Native.Nat.{ℕ, _+_, _≤_}
-use mathlib.Core.List.{List, [], _∷_, _++_}
+use mathlib.Core.List.{[], _∷_, _++_}
 use native.Mathlib.Omega.{arith}
-use lib.ListN.{length, length-append}
+use lib.ListN.{length-append}
 use Rattle.order.specs.declared.Order.the-variants.{Stop}
 use Rattle.sheet.specs.declared.Field.{Field}
-use Rattle.sheet.specs.declared.Field.the-variants.{Else, Then}
+use Rattle.sheet.specs.declared.Field.the-variants.{Else, Start, Finish}
 use Rattle.sheet.specs.Sheet.{Expression, word, constant, negated, inverted, binary, Simple, set, send, goto}
-use Rattle.sheet.specs.Sheet.{Instruction, simple, when, either, Sheet, sheet}
-use Rattle.sheet.specs.Fields.{expressionFields, simpleFields, instructionFields, fieldsOfAll, sheetFields}
-use Rattle.sheet.specs.Translation.{instructionCode, instructionsCode, firstOrder}
-use Rattle.sheet.specs.Within.{Expressed, SimpleFormed, InstructionFormed, AllFormed, Within}
+use Rattle.sheet.specs.Sheet.{Condition, compares, Part, end, plain, when, either, count, Sheet, sheet}
+use Rattle.sheet.specs.Fields.{expressionFields, simpleFields, conditionFields, partFields, sheetFields}
+use Rattle.sheet.specs.Formed.{Expressed, SimpleFormed}
+use Rattle.sheet.specs.Condition.{ConditionFormed}
+use Rattle.sheet.specs.Translation.{partCode, firstOrder}
+use Rattle.sheet.specs.Within.{PartFormed, Within}
 use Rattle.sheet.proofs.Each.{Each, each-append}
-use Rattle.sheet.proofs.InstructionAgain.{instruction-some}
+use Rattle.sheet.proofs.Sizes.{code-length, count-size}
 use Rattle.sheet_field.specs.Memory.{carried}
 
 abbrev pub Small : Field → Type 0
@@ -36,39 +38,33 @@ module _ (v n : ℕ) (few-variables : v ≤ 64) (few-instructions : n ≤ 1024) 
   simple-small (send e) x = (omega arith, expression-small e x)
   simple-small (goto s) x = (omega arith, tt)
 
-  -- the condition of an IF and its THEN
-  then-small : (a b : Expression) (u : Simple) → Expressed v a → Expressed v b → SimpleFormed v n u
-      → Each Small ((expressionFields a ++ expressionFields b) ++ (Then ∷ simpleFields u))
-  then-small a b u x y z =
-      each-append Small (expressionFields a ++ expressionFields b) (Then ∷ simpleFields u)
-      (each-append Small (expressionFields a) (expressionFields b) (expression-small a x) (expression-small b y))
-      (omega arith, simple-small u z)
-
-  instruction-small : (i : Instruction) → InstructionFormed v n i → Each Small (instructionFields i)
-  instruction-small (simple u) x = simple-small u x
-  instruction-small (when r a b u) x = (omega arith, then-small a b u (x .0) (x .1) (x .2))
-  instruction-small (either r a b u w) x = (
+  condition-small : (c : Condition) → ConditionFormed v c → Each Small (conditionFields c)
+  condition-small (compares r a b) x = (
     omega arith,
-    each-append Small ((expressionFields a ++ expressionFields b) ++ (Then ∷ simpleFields u)) (Else ∷ simpleFields w)
-        (then-small a b u (x .0) (x .1) (x .2))
-        (omega arith, simple-small w (x .3)),
+    each-append Small (expressionFields a) (expressionFields b) (expression-small a (x .0)) (expression-small b (x .1)),
   )
 
-  all-small : (is : List Instruction) → AllFormed v n is → Each Small (fieldsOfAll is)
-  unfolding fieldsOfAll AllFormed
-  all-small [] x = tt
-  all-small (i ∷ is) x =
-      each-append Small (instructionFields i) (fieldsOfAll is) (instruction-small i (x .0)) (all-small is (x .1))
-
-count-orders : (v : ℕ) (to : ℕ → ℕ) (p : ℕ) (is : List Instruction) → length is ≤ length (instructionsCode v to p is)
-unfolding instructionsCode
-count-orders v to p [] = omega arith
-count-orders v to p (i ∷ is) =
-    let behind = count-orders v to (p + length (instructionCode v to p i)) is in
-    simp length-append (omega (arith, instruction-some v to p i, behind))
+  part-small : (x : Part) → PartFormed v n x → Each Small (partFields x)
+  unfolding partFields PartFormed
+  part-small end f = tt
+  part-small (plain u l) f = each-append Small (simpleFields u) (partFields l) (simple-small u (f .0)) (part-small l (f .1))
+  part-small (when c x l) f = (
+    omega arith,
+    each-append Small (conditionFields c) (Start ∷ (partFields x ++ (Finish ∷ partFields l)))
+        (condition-small c (f .0))
+        (omega arith, each-append Small (partFields x) (Finish ∷ partFields l) (part-small x (f .2)) (omega arith, part-small l (f .3))),
+  )
+  part-small (either c x y l) f =
+      let behind = each-append Small (partFields y) (Finish ∷ partFields l) (part-small y (f .4)) (omega arith, part-small l (f .5)) in
+      let first = each-append Small (partFields x) (Else ∷ (partFields y ++ (Finish ∷ partFields l))) (part-small x (f .3)) (omega arith, behind) in (
+        omega arith,
+        each-append Small (conditionFields c) (Start ∷ (partFields x ++ (Else ∷ (partFields y ++ (Finish ∷ partFields l)))))
+            (condition-small c (f .0))
+            (omega arith, first),
+      )
 
 pub sheet-small : (s : Sheet) → Within s → Each Small (sheetFields s)
-sheet-small (sheet v is) w =
-    let orders = length-append (instructionsCode v (firstOrder v is) 0 is) (Stop ∷ []) in
-    let few : length is ≤ 1024 = omega (arith, orders, w .few-orders, count-orders v (firstOrder v is) 0 is) in
-    all-small v (length is) (w .few-variables) few is (w .formed)
+sheet-small (sheet v x) w =
+    let orders = length-append (partCode v (firstOrder v x) 0 x) (Stop ∷ []) in
+    let few : count x ≤ 1024 = omega (arith, orders, w .few-orders, code-length v (firstOrder v x) 0 x, count-size v x) in
+    part-small v (count x) (w .few-variables) few x (w .formed)

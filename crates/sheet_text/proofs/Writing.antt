@@ -1,19 +1,18 @@
 -- Writing a sheet's text: what each function puts into the buffer, and the lengths of the parts.
-use Prim.Native.Nat.{ℕ, suc, _+_, _-_, _<_, _≤_}
-use mathlib.Core.Path.{_≡_, refl, sym}
-use mathlib.Core.Bool.{Bool, false}
-use mathlib.Core.List.{List, [], _∷_, _++_}
+use Prim.Native.Nat.{ℕ, suc, _+_, _<_, _≤_}
+use mathlib.Core.Path.{_≡_, refl, sym, ap}
+use mathlib.Core.List.{List, [], _∷_, _++_, map}
 use native.Mathlib.Omega.{arith}
-use lib.ListN.{length, getD, length-append}
+use lib.ListN.{length, getD, length-append, drop-of-length-le}
 use Rattle.base.specs.Text.{bytes}
+use Rattle.base.proofs.Lists.{drop-more}
 use Rattle.text.specs.Pieces.{decimal}
 use Rattle.text.specs.Internal.{Placed, putByte, putAll}
 use Rattle.text.proofs.Writing.{putAll-append}
 use Rattle.sheet.specs.declared.Field.{Field}
 use Rattle.sheet.specs.Fields.{fieldText}
-use Rattle.sheet_field.specs.Memory.{fieldOf, fieldsFrom}
-use Rattle.sheet_field.proofs.Stored.{fields-more, fields-over}
-use Rattle.sheet_text.specs.TextOfFields.{opens, separator, fieldsText, headerText, textOfFields}
+use Rattle.sheet_field.specs.Memory.{fieldIn, fieldsAt}
+use Rattle.sheet_text.specs.TextOfFields.{separator, fieldsText, headerText, textOfFields}
 
 -- the header
 pub put-header-parts : (v is : ℕ) (p : Placed)
@@ -27,63 +26,45 @@ header-length v is =
     let fields : length (headerText v is) ≡ 6 + length (decimal v) + suc (length (decimal is)) = simp length-append in
     omega (arith, fields)
 
--- what stands before a field does not change the length
-any-part : (part : Bool) (fs : List Field) → length (fieldsText part fs) ≡ length (fieldsText false fs)
-unfolding fieldsText
-any-part part [] = refl
-any-part part (f ∷ fs) = refl
-
 -- ---- the loops over the fields
 
-module _ (ks vs : List ℕ) where
-  -- the fields that are left at place i, of n in all
-  abbrev pub left : ℕ → ℕ → List Field
-  left n i = fieldsFrom i (n - i) ks vs
+pub some-text : (fs : List Field) → 1 ≤ length (fieldsText fs)
+unfolding fieldsText
+some-text [] = omega arith
+some-text (f ∷ fs) = omega arith
 
-  left-more : (n i : ℕ) → i < n → left n i ≡ fieldOf (getD ks i 0) (getD vs i 0) ∷ left n (i + 1)
-  left-more n i h = fields-more ks vs i n h
+module _ (ws : List ℕ) (i : ℕ) where
+  left-more : i < length ws → fieldsAt i ws ≡ fieldIn (getD ws i 0) ∷ fieldsAt (i + 1) ws
+  left-more h = ap (map fieldIn) (drop-more ws i 0 h)
 
-  left-none : (n i : ℕ) → n ≤ i → left n i ≡ []
-  left-none n i h = fields-over ks vs i n h
-
-  -- all of them are left at first
-  left-all : (n : ℕ) → left n 0 ≡ fieldsFrom 0 n ks vs
-  left-all n = let all : n - 0 ≡ n = omega arith in rw all refl
-
-  pub put-start : (n : ℕ) (p : Placed)
-      → putAll (fieldsText false (left n 0)) p ≡ putAll (fieldsText false (fieldsFrom 0 n ks vs)) p
-  put-start n p = rw (left-all n) refl
+  left-none : length ws ≤ i → fieldsAt i ws ≡ []
+  left-none h = ap (map fieldIn) (drop-of-length-le ws h)
 
   -- a field f behind its separator b: p, q and r are the places before both, between them and behind them
-  pub put-turn : (n i : ℕ) (f : Field) (part o : Bool) (b : ℕ) (p q r : Placed)
-      → i < n → f ≡ fieldOf (getD ks i 0) (getD vs i 0) → b ≡ separator part f
-      → q ≡ putByte b p → r ≡ putAll (fieldText f) q → o ≡ opens f
-      → putAll (fieldsText o (left n (i + 1))) r ≡ putAll (fieldsText part (left n i)) p
+  pub put-turn : (f : Field) (b : ℕ) (p q r : Placed)
+      → i < length ws → f ≡ fieldIn (getD ws i 0) → b ≡ separator f
+      → q ≡ putByte b p → r ≡ putAll (fieldText f) q
+      → putAll (fieldsText (fieldsAt (i + 1) ws)) r ≡ putAll (fieldsText (fieldsAt i ws)) p
   unfolding fieldsText putAll
-  put-turn n i f part o b p q r h is-field is-separator put-one put-other is-open =
-      rw (is-open, put-other, put-one, is-separator, left-more n i h, ← is-field)
-      (sym (putAll-append (fieldText f) (fieldsText (opens f) (left n (i + 1))) (putByte (separator part f) p)))
+  put-turn f b p q r h is-field is-separator put-one put-other =
+      rw (put-other, put-one, is-separator, left-more h, ← is-field)
+      (sym (putAll-append (fieldText f) (fieldsText (fieldsAt (i + 1) ws)) (putByte (separator f) p)))
 
-  pub put-over : (n i : ℕ) (part : Bool) (p : Placed) → n ≤ i → putByte 10 p ≡ putAll (fieldsText part (left n i)) p
+  pub put-over : (p : Placed) → length ws ≤ i → putByte 10 p ≡ putAll (fieldsText (fieldsAt i ws)) p
   unfolding fieldsText putAll
-  put-over n i part p h = rw (left-none n i h) refl
+  put-over p h = rw (left-none h) refl
 
-  -- the last newline is counted first
-  pub count-start : (n v is : ℕ)
-      → length (decimal v) + length (decimal is) + 8 + length (fieldsText false (left n 0))
-      ≡ 1 + length (textOfFields v is (fieldsFrom 0 n ks vs))
-  count-start n v is =
-      rw (left-all n)
-      (omega (arith, header-length v is, length-append (headerText v is) (fieldsText false (fieldsFrom 0 n ks vs))))
-
-  pub count-turn : (n i : ℕ) (f : Field) → f ≡ fieldOf (getD ks i 0) (getD vs i 0) → i < n
-      → length (fieldsText false (left n i)) ≡ length (fieldText f) + 1 + length (fieldsText false (left n (i + 1)))
+  pub count-turn : (f : Field) → f ≡ fieldIn (getD ws i 0) → i < length ws
+      → length (fieldsText (fieldsAt i ws)) ≡ length (fieldText f) + 1 + length (fieldsText (fieldsAt (i + 1) ws))
   unfolding fieldsText
-  count-turn n i f e h =
-      rw (left-more n i h, ← e)
-      (let both = length-append (fieldText f) (fieldsText (opens f) (left n (i + 1))) in
-      omega (arith, both, any-part (opens f) (left n (i + 1))))
+  count-turn f e h =
+      rw (left-more h, ← e) (omega (arith, length-append (fieldText f) (fieldsText (fieldsAt (i + 1) ws))))
 
-  pub count-over : (n i : ℕ) → n ≤ i → length (fieldsText false (left n i)) ≡ 1
+  pub count-over : length ws ≤ i → length (fieldsText (fieldsAt i ws)) ≡ 1
   unfolding fieldsText
-  count-over n i h = rw (left-none n i h) refl
+  count-over h = rw (left-none h) refl
+
+-- the last newline is counted first
+pub count-start : (v is : ℕ) (fs : List Field)
+    → length (decimal v) + length (decimal is) + 8 + length (fieldsText fs) ≡ 1 + length (textOfFields v is fs)
+count-start v is fs = omega (arith, header-length v is, length-append (headerText v is) (fieldsText fs))

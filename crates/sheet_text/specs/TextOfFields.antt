@@ -1,5 +1,6 @@
 -- The text of fields, whether or not they are a sheet's: V, the number of instructions, and each field behind its separator.
--- proofs/Flat.antt shows that the text of a sheet's fields is the sheet's text.
+-- proofs/Flat.antt shows that the text of a sheet's fields is the sheet's text. Comments in quotes are the words of document 01
+-- and of 02, L1.
 use Prim.Native.Nat.{ℕ}
 use mathlib.Core.Bool.{Bool, true, false}
 use mathlib.Core.List.{List, [], _∷_, _++_}
@@ -7,45 +8,33 @@ use Rattle.base.specs.Choice.{pick}
 use Rattle.base.specs.Text.{bytes}
 use Rattle.text.specs.Pieces.{decimal}
 use Rattle.sheet.specs.declared.Field.{Field}
-use Rattle.sheet.specs.declared.Field.the-variants.{Else, Then, Send, Neg, Not, Binary, If, Word, Constant, Set, Goto}
+use Rattle.sheet.specs.declared.Field.the-variants.{Else, Start, Finish, If, Send, Neg, Not, Binary, Compare, Word, Constant, Set, Goto}
 use Rattle.sheet.specs.Fields.{fieldText}
 
--- a field that begins an instruction
+-- a field that begins a line: "one line each" of the instructions, "a line `START`", "a line `ELSE`" and "a line `FINISH`"
 abbrev pub begins : Field → Bool
-begins Else = false
-begins Then = false
+begins Else = true
+begins Start = true
+begins Finish = true
+begins If = true
 begins Send = true
 begins Neg = false
 begins Not = false
 begins (Binary o) = false
-begins (If r) = true
+begins (Compare r) = false
 begins (Word w) = false
 begins (Constant n) = false
 begins (Set w) = true
 begins (Goto s) = true
 
--- a field behind which an instruction is part of an IF
-abbrev pub opens : Field → Bool
-opens Else = true
-opens Then = true
-opens Send = false
-opens Neg = false
-opens Not = false
-opens (Binary o) = false
-opens (If r) = false
-opens (Word w) = false
-opens (Constant n) = false
-opens (Set w) = false
-opens (Goto s) = false
-
--- what stands before a field; `part` where it is right behind THEN or ELSE
-abbrev pub separator : Bool → Field → ℕ
-separator part f = pick part 9 (pick (begins f) 10 9)
+-- what stands before a field: the newline that ends the line before, or a tab
+abbrev pub separator : Field → ℕ
+separator f = pick (begins f) 10 9
 
 -- the fields behind their separators, and the last newline
-unfoldable pub fieldsText : Bool → List Field → List ℕ
-fieldsText part [] = 10 ∷ []
-fieldsText part (f ∷ fs) = separator part f ∷ fieldText f ++ fieldsText (opens f) fs
+unfoldable pub fieldsText : List Field → List ℕ
+fieldsText [] = 10 ∷ []
+fieldsText (f ∷ fs) = separator f ∷ fieldText f ++ fieldsText fs
 
 -- the header without its newline
 abbrev pub headerText : ℕ → ℕ → List ℕ
@@ -53,4 +42,4 @@ headerText v is = bytes "SHEET\t" ++ decimal v ++ 9 ∷ decimal is
 
 -- the text of fields
 abbrev pub textOfFields : ℕ → ℕ → List Field → List ℕ
-textOfFields v is fs = headerText v is ++ fieldsText false fs
+textOfFields v is fs = headerText v is ++ fieldsText fs

@@ -1,7 +1,7 @@
-// The text of a sheet, written into a lent buffer. A sheet in memory is the list of its fields, in the order of its text.
+// The text of a sheet, written into a lent buffer. A sheet in memory is the array of its fields, in the order of its text.
 use base::part;
 use sheet::Field;
-use sheet_field::field_at;
+use sheet_field::field_in;
 use sheet_field::kind_of;
 use sheet_field::value_of;
 use text::write::decimal_length;
@@ -9,7 +9,6 @@ use text::write::put_byte;
 use text::write::put_decimal;
 use text::write::put_fixed;
 ghost use mathlib.Core.Path.{_≡_};
-ghost use mathlib.Core.Bool.{false};
 ghost use mathlib.Core.List.{_++_};
 ghost use Prim.Native.Nat.{_≤_};
 ghost use lib.ListN.{length};
@@ -17,9 +16,9 @@ ghost use Rattle.text.specs.Pieces.{decimal};
 ghost use Rattle.text.specs.Buffer.{filledWith};
 ghost use Rattle.text.specs.Internal.{placed, putAll};
 ghost use Rattle.sheet.specs.Fields.{fieldText};
-ghost use Rattle.sheet_field.specs.Memory.{fieldsFrom};
-ghost use Rattle.sheet_text.specs.Answers.{written, replyFor};
-ghost use Rattle.sheet_text.specs.TextOfFields.{begins, opens, separator, headerText, fieldsText, textOfFields};
+ghost use Rattle.sheet_field.specs.Memory.{fieldsAt};
+ghost use Rattle.sheet_text.specs.Answers.{written, Measured, replyFor};
+ghost use Rattle.sheet_text.specs.TextOfFields.{begins, separator, headerText, fieldsText, textOfFields};
 
 // What became of a text: its length, or that the buffer is shorter than it.
 pub enum Written {
@@ -27,14 +26,14 @@ pub enum Written {
     Short,
 }
 
-// What the text of a field begins with, by the fields' numbers in memory: five bytes each, a shorter one with spaces behind it.
-// From 21 on the number that the field carries stands behind it.
-const FRONTS: [u8; 125] = *b"ELSE THEN SEND NEG  NOT  \
-    +    -    *    /    **   <<   >>   &    !    !!   \
-    IF\t= IF\t# IF\t< IF\t<=IF\t> IF\t>=W    K    SET\t GOTO\t";
+// What the text of a field begins with, by the fields' numbers in memory: six bytes each, a shorter one with spaces behind it.
+// From 23 on the number that the field carries stands behind it.
+const FRONTS: [u8; 162] = *b"ELSE  START FINISHIF    SEND  NEG   NOT   \
+    +     -     *     /     **    <<    >>    &     !     !!    \
+    =     #     <     <=    >     >=    W     K     SET\t  GOTO\t ";
 
 // Their lengths, as digits.
-const FRONT_LENGTHS: [u8; 25] = *b"4443311112221124445451145";
+const FRONT_LENGTHS: [u8; 27] = *b"456243311112221121112121145";
 
 // A fixed string and the number behind it.
 fn put_numbered(buffer: &mut [u8], at: usize, string: &[u8], n: u32) -> usize
@@ -52,26 +51,28 @@ fn put_field(buffer: &mut [u8], at: usize, f: Field) -> usize
     let i = put_fixed(
         buffer,
         at,
-        part(&FRONTS, 5 * k, (FRONT_LENGTHS[k] % 16) as usize),
+        part(&FRONTS, 6 * k, (FRONT_LENGTHS[k] % 16) as usize),
     );
-    if k < 21 {
+    if k < 23 {
         return i;
     }
     put_decimal(buffer, i, value_of(f))
 }
 
-// Whether a field begins an instruction: SET, SEND, GOTO or IF.
-fn begins_one(f: Field) -> bool
+// Whether a field begins a line.
+fn begins_line(f: Field) -> bool
     ensures { λ r. ⌜ r ≡ begins f ⌝ }
 {
     match f {
-        Field::Else => false,
-        Field::Then => false,
+        Field::Else => true,
+        Field::Start => true,
+        Field::Finish => true,
+        Field::If => true,
         Field::Send => true,
         Field::Neg => false,
         Field::Not => false,
         Field::Binary(_) => false,
-        Field::If(_) => true,
+        Field::Compare(_) => false,
         Field::Word(_) => false,
         Field::Constant(_) => false,
         Field::Set(_) => true,
@@ -79,33 +80,11 @@ fn begins_one(f: Field) -> bool
     }
 }
 
-// Whether an instruction behind a field is part of an IF: the field is THEN or ELSE.
-fn opens_part(f: Field) -> bool
-    ensures { λ r. ⌜ r ≡ opens f ⌝ }
+// The byte before a field: newline where it begins a line, else tab.
+fn separator_of(f: Field) -> u8
+    ensures { λ r. ⌜ r ≡ separator f ⌝ }
 {
-    match f {
-        Field::Else => true,
-        Field::Then => true,
-        Field::Send => false,
-        Field::Neg => false,
-        Field::Not => false,
-        Field::Binary(_) => false,
-        Field::If(_) => false,
-        Field::Word(_) => false,
-        Field::Constant(_) => false,
-        Field::Set(_) => false,
-        Field::Goto(_) => false,
-    }
-}
-
-// The byte before a field: newline where it begins an instruction that is no part of an IF, else tab.
-fn separator_of(f: Field, part: bool) -> u8
-    ensures { λ r. ⌜ r ≡ separator part f ⌝ }
-{
-    if part {
-        return 9;
-    }
-    if begins_one(f) {
+    if begins_line(f) {
         return 10;
     }
     9
@@ -120,68 +99,67 @@ fn put_header(buffer: &mut [u8], at: usize, v: u32, instructions: u32) -> usize
     put_decimal(buffer, j, instructions)
 }
 
-// The first n fields, each behind its separator, and the last newline.
-fn put_fields(buffer: &mut [u8], at: usize, kinds: &[u8], values: &[u32], n: u32) -> usize
-    ensures { λ r. ⌜ placed r (now (buffer .exit)) ≡ putAll (fieldsText false (fieldsFrom 0 n (now (kinds .entry)) (now (values .entry)))) (placed at (now (buffer .entry))) ⌝ }
+// The fields, each behind its separator, and the last newline.
+fn put_fields(buffer: &mut [u8], at: usize, fields: &[u64]) -> usize
+    ensures { λ r. ⌜ placed r (now (buffer .exit)) ≡ putAll (fieldsText (fieldsAt 0 (now (fields .entry)))) (placed at (now (buffer .entry))) ⌝ }
 {
     let mut j = at;
-    let mut part = false;
-    let mut i: u32 = 0;
-    while i < n {
-        let f = field_at(kinds, values, i as usize);
-        j = put_byte(buffer, j, separator_of(f, part));
+    let mut i: usize = 0;
+    while i < fields.len() {
+        let f = field_in(fields[i]);
+        j = put_byte(buffer, j, separator_of(f));
         j = put_field(buffer, j, f);
-        part = opens_part(f);
         i += 1;
     }
     put_byte(buffer, j, 10)
 }
 
-// The length of a field's text, with a bound by which no sum of lengths overflows.
+// The length of a field's text, with a bound by which a separator can be added.
 fn field_length(f: Field) -> usize
     ensures exact { λ r. ⌜ r ≡ length (fieldText f) ⌝ }
-    ensures few { λ r. ⌜ r ≤ 15 ⌝ }
+    ensures few { λ r. ⌜ r ≤ 16 ⌝ }
 {
     let k = kind_of(f) as usize;
     let front = (FRONT_LENGTHS[k] % 16) as usize;
-    if k < 21 {
+    if k < 23 {
         return front;
     }
     front + decimal_length(value_of(f))
 }
 
-// The length of the text that `write` writes.
-pub fn text_length(kinds: &[u8], values: &[u32], n: u32, v: u32, instructions: u32) -> usize
-    ensures { λ r. ⌜ r ≡ length (textOfFields v instructions (fieldsFrom 0 n (now (kinds .entry)) (now (values .entry)))) ⌝ }
+// The length of the text that `write` writes, or that there is no room for it. What is left of the room is counted, so that no
+// sum of lengths can overflow.
+fn text_length(fields: &[u64], v: u32, instructions: u32, room: usize) -> Written
+    ensures { λ r. ⌜ Measured room (length (textOfFields v instructions (fieldsAt 0 (now (fields .entry))))) r ⌝ }
 {
-    let mut total = decimal_length(v) + decimal_length(instructions) + 8;
-    let mut i: u32 = 0;
-    while i < n {
-        let f = field_at(kinds, values, i as usize);
-        total += field_length(f) + 1;
-        i += 1;
-    }
-    total
-}
-
-// Writes the text of V, a number of instructions and the first n fields of two arrays: their kinds and what they carry. The
-// room for all of it is tested first, so a buffer that is too short keeps every byte.
-pub fn write(
-    kinds: &[u8],
-    values: &[u32],
-    n: u32,
-    v: u32,
-    instructions: u32,
-    buffer: &mut [u8],
-) -> Written
-    ensures replied { λ r. ⌜ written r ≡ replyFor (textOfFields v instructions (fieldsFrom 0 n (now (kinds .entry)) (now (values .entry)))) (now (buffer .entry)) ⌝ }
-    ensures filled { λ _. ⌜ now (buffer .exit) ≡ filledWith (textOfFields v instructions (fieldsFrom 0 n (now (kinds .entry)) (now (values .entry)))) (now (buffer .entry)) ⌝ }
-{
-    let total = text_length(kinds, values, n, v, instructions);
-    if buffer.len() < total {
+    let header = decimal_length(v) + decimal_length(instructions) + 8;
+    if room < header {
         return Written::Short;
     }
+    let mut left = room - header;
+    let mut i: usize = 0;
+    while i < fields.len() {
+        let more = field_length(field_in(fields[i])) + 1;
+        if left < more {
+            return Written::Short;
+        }
+        left -= more;
+        i += 1;
+    }
+    Written::Whole(room - left)
+}
+
+// Writes the text of V, a number of instructions and the fields that are lent. The room for all of it is tested first, so a buffer
+// that is too short keeps every byte.
+pub fn write(fields: &[u64], v: u32, instructions: u32, buffer: &mut [u8]) -> Written
+    ensures replied { λ r. ⌜ written r ≡ replyFor (textOfFields v instructions (fieldsAt 0 (now (fields .entry)))) (now (buffer .entry)) ⌝ }
+    ensures filled { λ _. ⌜ now (buffer .exit) ≡ filledWith (textOfFields v instructions (fieldsAt 0 (now (fields .entry)))) (now (buffer .entry)) ⌝ }
+{
+    let room = buffer.len();
+    let Written::Whole(total) = text_length(fields, v, instructions, room) else {
+        return Written::Short;
+    };
     let at = put_header(buffer, 0, v, instructions);
-    put_fields(buffer, at, kinds, values, n);
+    put_fields(buffer, at, fields);
     Written::Whole(total)
 }

@@ -13,18 +13,18 @@ use Rattle.text.specs.Pieces.{digitsOf, decimal}
 use Rattle.order.specs.declared.Operation.{Operation}
 use Rattle.order.specs.declared.Operation.the-variants.{Load, Add, Sub, Mlt, Div, Exp, Shl, Shr, And, Or, Xor, Cmp}
 use Rattle.order.specs.declared.Order.{Order}
-use Rattle.order.specs.declared.Order.the-variants.{Word, Number, Store, Neg, Not, Jump, Branch, Send, Stop}
+use Rattle.order.specs.declared.Order.the-variants.{Word, Number, Store, Neg, Not, Jump, Skip, Branch, Send, Stop}
 use Rattle.order.specs.Order.{operationName, branchName, name, kind, operand}
 use Rattle.order.specs.Object.{recordText, recordsText, headerText, text}
 use Rattle.sheet.specs.declared.Operator.{Operator}
 use Rattle.sheet.specs.declared.Operator.the-variants.{Plus, Minus, Times, Over, Power, Left, Right, And as Both, Or as Any, Unlike}
 use Rattle.sheet.specs.declared.Field.{Field}
-use Rattle.sheet.specs.declared.Field.the-variants.{Else, Then, Send as FieldSend, Neg as FieldNeg, Not as FieldNot, Binary, If, Word as FieldWord, Constant, Set, Goto}
-use Rattle.sheet.specs.Sheet.{set, send, goto, Instruction, simple, when, either, Sheet, sheet, variables}
+use Rattle.sheet.specs.declared.Field.the-variants.{Else, Start, Finish, If, Send as FieldSend, Neg as FieldNeg, Not as FieldNot, Binary, Compare, Word as FieldWord, Constant, Set, Goto}
+use Rattle.sheet.specs.Sheet.{Simple, set, send, goto, Part, end, plain, when, either, count, Sheet, sheet, variables}
 use Rattle.sheet.specs.Within.{Within}
-use Rattle.sheet.specs.Fields.{instructionFields, fieldsOfAll, operatorText, relationText, fieldText, lineRest, line, lines, sheetText}
+use Rattle.sheet.specs.Fields.{simpleFields, conditionFields, partFields, operatorText, relationText, fieldText, lineRest, line, lines, sheetText}
 use Rattle.sheet.specs.Translation.{translation, sheetTemporaries, objectText}
-use Rattle.translate_size.proofs.Lengths.{translation-length, fields-twice}
+use Rattle.sheet.proofs.Lengths.{translation-length, part-few}
 
 -- ---- numbers
 
@@ -78,6 +78,7 @@ name-few (Store w) = omega arith
 name-few Neg = omega arith
 name-few Not = omega arith
 name-few (Jump a) = omega arith
+name-few (Skip a) = omega arith
 name-few (Branch r a) = branch-few r
 name-few Send = omega arith
 name-few Stop = omega arith
@@ -90,6 +91,7 @@ kind-few (Store w) = omega arith
 kind-few Neg = omega arith
 kind-few Not = omega arith
 kind-few (Jump a) = omega arith
+kind-few (Skip a) = omega arith
 kind-few (Branch r a) = omega arith
 kind-few Send = omega arith
 kind-few Stop = omega arith
@@ -134,7 +136,7 @@ operator-few Both = omega arith
 operator-few Any = omega arith
 operator-few Unlike = omega arith
 
-relation-few : (r : Relation) → length (bytes (relationText r)) ≤ 12
+relation-few : (r : Relation) → length (bytes (relationText r)) ≤ 15
 unfolding bytes
 relation-few Equal = omega arith
 relation-few Unequal = omega arith
@@ -146,12 +148,14 @@ relation-few AtLeast = omega arith
 field-few : (f : Field) → length (fieldText f) ≤ 15
 unfolding bytes
 field-few Else = omega arith
-field-few Then = omega arith
+field-few Start = omega arith
+field-few Finish = omega arith
+field-few If = omega arith
 field-few FieldSend = omega arith
 field-few FieldNeg = omega arith
 field-few FieldNot = omega arith
 field-few (Binary o) = operator-few o
-field-few (If r) = both-few (bytes "IF\t") (bytes (relationText r)) 3 12 (omega arith) (relation-few r)
+field-few (Compare r) = relation-few r
 field-few (FieldWord w) = both-few (bytes "W") (decimal w) 5 10 (omega arith) (decimal-few w)
 field-few (Constant n) = both-few (bytes "K") (decimal n) 5 10 (omega arith) (decimal-few n)
 field-few (Set w) = both-few (bytes "SET\t") (decimal w) 5 10 (omega arith) (decimal-few w)
@@ -170,22 +174,45 @@ line-few f fs =
     let all = both-few (fieldText f) (lineRest fs) 15 (16 * length fs + 1) (field-few f) (rest-few fs) in
     omega (arith, all)
 
-instruction-few : (i : Instruction) → length (line (instructionFields i)) ≤ 16 * length (instructionFields i)
-instruction-few (simple (set w e)) = line-few _ _
-instruction-few (simple (send e)) = line-few _ _
-instruction-few (simple (goto s)) = line-few _ _
-instruction-few (when r a b u) = line-few _ _
-instruction-few (either r a b u w) = line-few _ _
+simple-few : (u : Simple) → length (line (simpleFields u)) ≤ 16 * length (simpleFields u)
+simple-few (set w e) = line-few _ _
+simple-few (send e) = line-few _ _
+simple-few (goto s) = line-few _ _
 
-lines-few : (is : List Instruction) → length (lines is) ≤ 16 * length (fieldsOfAll is)
-unfolding lines fieldsOfAll
-lines-few [] = omega arith
-lines-few (i ∷ is) =
-    let all = both-few (line (instructionFields i)) (lines is) _ _ (instruction-few i) (lines-few is) in
-    omega (arith, all, length-append (instructionFields i) (fieldsOfAll is))
+lines-few : (x : Part) → length (lines x) ≤ 16 * length (partFields x)
+unfolding lines partFields
+lines-few end = omega arith
+lines-few (plain u l) =
+    omega (arith, simple-few u, lines-few l, length-append (line (simpleFields u)) (lines l), length-append (simpleFields u) (partFields l))
+lines-few (when c x l) =
+    let question = line-few If (conditionFields c) in
+    let begin = line-few Start [] in
+    let finish = line-few Finish [] in
+    let a = length-append (line (If ∷ conditionFields c)) (line (Start ∷ []) ++ (lines x ++ (line (Finish ∷ []) ++ lines l))) in
+    let b = length-append (line (Start ∷ [])) (lines x ++ (line (Finish ∷ []) ++ lines l)) in
+    let d = length-append (lines x) (line (Finish ∷ []) ++ lines l) in
+    let e = length-append (line (Finish ∷ [])) (lines l) in
+    let f = length-append (conditionFields c) (Start ∷ (partFields x ++ (Finish ∷ partFields l))) in
+    let g = length-append (partFields x) (Finish ∷ partFields l) in
+    omega (arith, question, begin, finish, a, b, d, e, f, g, lines-few x, lines-few l)
+lines-few (either c x y l) =
+    let question = line-few If (conditionFields c) in
+    let begin = line-few Start [] in
+    let turn = line-few Else [] in
+    let finish = line-few Finish [] in
+    let a = length-append (line (If ∷ conditionFields c)) (line (Start ∷ []) ++ (lines x ++ (line (Else ∷ []) ++ (lines y ++ (line (Finish ∷ []) ++ lines l))))) in
+    let b = length-append (line (Start ∷ [])) (lines x ++ (line (Else ∷ []) ++ (lines y ++ (line (Finish ∷ []) ++ lines l)))) in
+    let d = length-append (lines x) (line (Else ∷ []) ++ (lines y ++ (line (Finish ∷ []) ++ lines l))) in
+    let e = length-append (line (Else ∷ [])) (lines y ++ (line (Finish ∷ []) ++ lines l)) in
+    let h = length-append (lines y) (line (Finish ∷ []) ++ lines l) in
+    let i = length-append (line (Finish ∷ [])) (lines l) in
+    let f = length-append (conditionFields c) (Start ∷ (partFields x ++ (Else ∷ (partFields y ++ (Finish ∷ partFields l))))) in
+    let g = length-append (partFields x) (Else ∷ (partFields y ++ (Finish ∷ partFields l))) in
+    let j = length-append (partFields y) (Finish ∷ partFields l) in
+    omega (arith, question, begin, turn, finish, a, b, d, e, h, i, f, g, j, lines-few x, lines-few y, lines-few l)
 
 pub sheet-few : (s : Sheet) → Within s → length (sheetText s) ≤ 32768
 unfolding bytes
-sheet-few (sheet v is) w =
-    let e : length (sheetText (sheet v is)) ≡ 6 + length (decimal v) + suc (length (decimal (length is))) + suc (length (lines is)) = simp length-append in
-    omega (arith, e, decimal-few v, decimal-few (length is), lines-few is, fields-twice v is, translation-length v is, w .few-orders)
+sheet-few (sheet v x) w =
+    let e : length (sheetText (sheet v x)) ≡ 6 + length (decimal v) + suc (length (decimal (count x))) + suc (length (lines x)) = simp length-append in
+    omega (arith, e, decimal-few v, decimal-few (count x), lines-few x, part-few v x, translation-length v x, w .few-orders)

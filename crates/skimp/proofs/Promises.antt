@@ -69,7 +69,7 @@ module _ (source buffer : List ℕ) where
 pub compile-refuses : CompileRefuses
 compile-refuses source buffer n place e =
     let known = refusal-bounded source n place e in
-    (answered source buffer (refusal n place) e, known .0, known .1, omega (arith, known .2))
+    (answered source buffer (refusal n place) e, known .0, known .1, known .2, omega (arith, known .3))
 
 pub compile-too-short : CompileTooShort
 compile-too-short source buffer s e h = answered source buffer (accepted s) e ∙ text-short 12 (objectText s) buffer h
@@ -95,7 +95,7 @@ compile-keeps source buffer r left c not-so = keeps-by source buffer r left (ans
 accepts-by : (source buffer : List ℕ) (r : ℕ) (left : List ℕ) (a : Answer) → answer source ≡ a → compileCall source buffer ≡ wrote r left → numberIn r ≡ 0 → Accepted source buffer r left
 accepts-by source buffer r left (refusal n place) e c taken =
     let known = refusal-bounded source n place e in
-    let told = refused-number n place r (omega (arith, known .2)) (ap replyOf (sym (answered source buffer (refusal n place) e) ∙ c)) in
+    let told = refused-number n place r (omega (arith, known .3)) (ap replyOf (sym (answered source buffer (refusal n place) e) ∙ c)) in
     absurd (omega (arith, taken, told, known .0))
 accepts-by source buffer r left (accepted s) e c taken = of-told (compiled source buffer r left s e c)
   where
@@ -106,14 +106,14 @@ accepts-by source buffer r left (accepted s) e c taken = of-told (compiled sourc
 pub compile-accepts : CompileAccepts
 compile-accepts source buffer r left c taken = accepts-by source buffer r left (answer source) refl c taken
 
-numbers-by : (source buffer : List ℕ) (r : ℕ) (left : List ℕ) (a : Answer) → answer source ≡ a → compileCall source buffer ≡ wrote r left → numberIn r ≤ 12
+numbers-by : (source buffer : List ℕ) (r : ℕ) (left : List ℕ) (a : Answer) → answer source ≡ a → compileCall source buffer ≡ wrote r left → numberIn r ≤ 13
 numbers-by source buffer r left (refusal n place) e c =
     let known = refusal-bounded source n place e in
-    let told = refused-number n place r (omega (arith, known .2)) (ap replyOf (sym (answered source buffer (refusal n place) e) ∙ c)) in
+    let told = refused-number n place r (omega (arith, known .3)) (ap replyOf (sym (answered source buffer (refusal n place) e) ∙ c)) in
     omega (arith, told, known .1)
 numbers-by source buffer r left (accepted s) e c = of-told (compiled source buffer r left s e c)
   where
-    of-told : Told 12 (objectText s) buffer r left → numberIn r ≤ 12
+    of-told : Told 12 (objectText s) buffer r left → numberIn r ≤ 13
     of-told (whole z w) = omega (arith, z)
     of-told (shortOf k) = omega (arith, k .number)
 

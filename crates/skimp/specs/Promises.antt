@@ -1,7 +1,7 @@
 -- The promises, from the bytes that are lent to the bytes that are left. Each definition is a proposition, and
 -- proofs/Promises.antt proves it. The contracts in src/lib.rt say of each function that its reply and every lent byte
 -- afterwards are those of `compileCall`, `readBackCall` and `runCall`, for all inputs; what follows says what these are.
--- Comments in quotes are document 01's words.
+-- Comments in quotes are the words of document 01 and of 02.
 use Prim.Native.Nat.{ℕ, _+_, _*_, _/_, _≤_, _<_}
 use mathlib.Core.Path.{_≡_}
 use mathlib.Core.Bool.{true, false}
@@ -35,12 +35,12 @@ use Rattle.call.specs.Run.{Call, call, stateFits, runCall, replyOfBoth}
 abbrev pub RepliesTell : Type 0
 RepliesTell = (n v : ℕ) → v < 4294967296 → (numberIn (reply n v) ≡ n) × (valueIn (reply n v) ≡ v)
 
--- compile: 1 to 11 and their places, in the order of the checks
+-- compile: 1 to 11 and 13, and their places, in the order of the checks
 abbrev pub CompileRefuses : Type 0
 CompileRefuses =
     (source buffer : List ℕ) (n place : ℕ)
     → answer source ≡ refusal n place
-    → (compileCall source buffer ≡ wrote (reply n place) buffer) × (1 ≤ n) × (n ≤ 11) × (place < 4294967296)
+    → (compileCall source buffer ≡ wrote (reply n place) buffer) × (1 ≤ n) × (n ≤ 13) × (n ≡ 12 → ⊥) × (place < 4294967296)
 
 -- 12 "object buffer too short, all else well"
 abbrev pub CompileTooShort : Type 0
@@ -53,7 +53,7 @@ CompileTooShort =
 -- no other number than these and 0
 abbrev pub CompileNumbers : Type 0
 CompileNumbers =
-    (source buffer : List ℕ) (r : ℕ) (left : List ℕ) → compileCall source buffer ≡ wrote r left → numberIn r ≤ 12
+    (source buffer : List ℕ) (r : ℕ) (left : List ℕ) → compileCall source buffer ≡ wrote r left → numberIn r ≤ 13
 
 -- read-back: 21 to 25. "then 31, 32" are below, where sheets are promised
 abbrev pub ReadBackRefuses : Type 0

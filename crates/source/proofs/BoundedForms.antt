@@ -2,16 +2,18 @@
 use Prim.Native.Nat.{ℕ, _+_, _<_, _≤_}
 use mathlib.Core.List.{List, [], _∷_, _++_}
 use Rattle.sheet.specs.Sheet.{Expression, word, constant, negated, inverted, binary, Simple, set, send, goto}
-use Rattle.sheet.specs.Sheet.{Instruction, simple, when, either}
-use Rattle.sheet.proofs.Each.{Each}
+use Rattle.sheet.specs.Sheet.{Condition, compares}
 use Rattle.source.specs.declared.Token.{Token}
 use Rattle.source.specs.declared.Token.the-variants.{Binary, Compare, Mark}
 use Rattle.source.specs.Limits.{greatestConstant}
-use Rattle.source.specs.Tokens.{markThen, markElse, markClose}
-use Rattle.source.specs.Grammar.{Form, beginning, declaration, ending, labels, instruction, noForm, form}
+use Rattle.source.specs.Tokens.{markThen, markElse, markStart, markClose}
+use Rattle.source.specs.Grammar.{Instruction, simple, ifThen, ifElse, ifStart}
+use Rattle.source.specs.Grammar.{Form, beginning, declaration, ending, labels, instruction, finish, finishElse, noForm, form}
 use Rattle.source.specs.Syntax.{named, decimal, quoted, bracketed, operand, inverse, higher, operation, minus}
 use Rattle.source.specs.Syntax.{Expressed, expression, plus, Simply, assignment, sending, jump}
-use Rattle.source.specs.Syntax.{Instructed, simply, conditional, alternative, begin, integers, instructed, alone, end}
+use Rattle.source.specs.Syntax.{Asked, comparison, Instructed, simply, conditional, alternative, opening}
+use Rattle.source.specs.Syntax.{begin, integers, instructed, alone, finishes, goes-on, end}
+use Rattle.source.proofs.Each.{Each}
 use Rattle.source.proofs.FineTokens.{Fine}
 use Rattle.source.proofs.ReadSyntax.{Finds, finds, no-form, form-finds}
 
@@ -28,10 +30,14 @@ module _ (v : ℕ) where
   SimpleBounded (send e) = Bounded e
   SimpleBounded (goto l) = Unit {0}
 
+  abbrev pub ConditionBounded : Condition → Type 0
+  ConditionBounded (compares r a b) = Bounded a × Bounded b
+
   abbrev pub InstructionBounded : Instruction → Type 0
   InstructionBounded (simple u) = SimpleBounded u
-  InstructionBounded (when r a b u) = Bounded a × Bounded b × SimpleBounded u
-  InstructionBounded (either r a b u w) = Bounded a × Bounded b × SimpleBounded u × SimpleBounded w
+  InstructionBounded (ifThen c u) = ConditionBounded c × SimpleBounded u
+  InstructionBounded (ifElse c u w) = ConditionBounded c × SimpleBounded u × SimpleBounded w
+  InstructionBounded (ifStart c) = ConditionBounded c
 
   abbrev pub FormBounded : Form → Type 0
   FormBounded beginning = Unit {0}
@@ -39,6 +45,8 @@ module _ (v : ℕ) where
   FormBounded ending = Unit {0}
   FormBounded (labels ls) = Unit {0}
   FormBounded (instruction ls i) = InstructionBounded i
+  FormBounded finish = Unit {0}
+  FormBounded finishElse = Unit {0}
   FormBounded noForm = Unit {0}
 
   abbrev Tokens : List Token → Type 0
@@ -74,31 +82,34 @@ module _ (v : ℕ) where
   simple-bounded (sending {ts = ts} d) h = expression-bounded d (fine-front ts (Mark markClose ∷ []) (h .1 .1))
   simple-bounded (jump l) h = tt
 
+  condition-bounded : {ts : List Token} {c : Condition} → Asked ts c → Tokens ts → ConditionBounded c
+  condition-bounded (comparison {xs = xs} {ys = ys} r c d) h = (
+    expression-bounded c (fine-front xs (Compare r ∷ ys) h),
+    expression-bounded d (fine-rest xs (Compare r ∷ ys) h .1),
+  )
+
   instruction-bounded : {ts : List Token} {i : Instruction} → Instructed ts i → Tokens ts → InstructionBounded i
   instruction-bounded (simply s) h = simple-bounded s h
-  instruction-bounded (conditional {xs = xs} {ys = ys} {us = us} r c d s) h =
-      let condition = fine-front (xs ++ Compare r ∷ ys) (Mark markThen ∷ us) (h .1) in
-      let behind-then = fine-rest (xs ++ Compare r ∷ ys) (Mark markThen ∷ us) (h .1) in (
-        expression-bounded c (fine-front xs (Compare r ∷ ys) condition),
-        expression-bounded d (fine-rest xs (Compare r ∷ ys) condition .1),
-        simple-bounded s (behind-then .1),
-      )
-  instruction-bounded (alternative {xs = xs} {ys = ys} {us = us} {ws = ws} r c d s t) h =
-      let before-else = fine-front (xs ++ Compare r ∷ ys ++ Mark markThen ∷ us) (Mark markElse ∷ ws) (h .1) in
-      let behind-else = fine-rest (xs ++ Compare r ∷ ys ++ Mark markThen ∷ us) (Mark markElse ∷ ws) (h .1) in
-      let condition = fine-front (xs ++ Compare r ∷ ys) (Mark markThen ∷ us) before-else in
-      let behind-then = fine-rest (xs ++ Compare r ∷ ys) (Mark markThen ∷ us) before-else in (
-        expression-bounded c (fine-front xs (Compare r ∷ ys) condition),
-        expression-bounded d (fine-rest xs (Compare r ∷ ys) condition .1),
-        simple-bounded s (behind-then .1),
+  instruction-bounded (conditional {xs = xs} {us = us} q s) h = (
+    condition-bounded q (fine-front xs (Mark markThen ∷ us) (h .1)),
+    simple-bounded s (fine-rest xs (Mark markThen ∷ us) (h .1) .1),
+  )
+  instruction-bounded (alternative {xs = xs} {us = us} {ws = ws} q s t) h =
+      let before-else = fine-front (xs ++ Mark markThen ∷ us) (Mark markElse ∷ ws) (h .1) in
+      let behind-else = fine-rest (xs ++ Mark markThen ∷ us) (Mark markElse ∷ ws) (h .1) in (
+        condition-bounded q (fine-front xs (Mark markThen ∷ us) before-else),
+        simple-bounded s (fine-rest xs (Mark markThen ∷ us) before-else .1),
         simple-bounded t (behind-else .1),
       )
+  instruction-bounded (opening {xs = xs} q) h = condition-bounded q (fine-front xs (Mark markThen ∷ Mark markStart ∷ []) (h .1))
 
   found-bounded : {ts : List Token} {f : Form} → Finds ts f → Tokens ts → FormBounded f
   found-bounded (finds begin) h = tt
   found-bounded (finds (integers ns)) h = tt
   found-bounded (finds (instructed {ts = ts} {us = us} l i)) h = instruction-bounded i (fine-rest ts us h)
   found-bounded (finds (alone l)) h = tt
+  found-bounded (finds finishes) h = tt
+  found-bounded (finds goes-on) h = tt
   found-bounded (finds end) h = tt
   found-bounded no-form h = tt
 

@@ -12,7 +12,7 @@ use Rattle.base.specs.Text.{bytes}
 use Rattle.base.specs.Front.{found, missing, onFront}
 use Rattle.base.proofs.Cases.{either-part}
 use Rattle.text.specs.Pieces.{Front, fixed}
-use Rattle.sheet.proofs.Each.{Each}
+use Rattle.source.proofs.Each.{Each}
 use Rattle.source.specs.declared.Token.{Token}
 use Rattle.source.specs.Limits.{greatestConstant}
 use Rattle.source.specs.Cells.{isCapital, isSmall}
@@ -124,7 +124,7 @@ module _ (c : ℕ) (cells : List ℕ) where
   keyword-leaves : Leaves cells (keywordAt (c ∷ cells))
   unfolding bytes
   keyword-leaves =
-      on-front (firstOf keywords (c ∷ cells)) (wrong 5) (first-leaves keywords (tt, (tt, (tt, (tt, (tt, (tt, tt))))))) tt
+      on-front (firstOf keywords (c ∷ cells)) (wrong 5) (first-leaves keywords (tt, (tt, (tt, (tt, (tt, (tt, (tt, (tt, tt))))))))) tt
 
   sign-leaves : Leaves cells (signAt c cells)
   unfolding bytes

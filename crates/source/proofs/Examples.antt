@@ -1,4 +1,5 @@
 -- Sources and what document 01 answers to each, as one table under one statement, read by the definitions.
+use Prim.Native.Nat.{ℕ}
 use Prim.Native.String.{String}
 use mathlib.Core.Path.{_≡_, refl}
 use mathlib.Core.List.{List, [], _∷_, map}
@@ -6,22 +7,25 @@ use Rattle.base.specs.Text.{bytes}
 use Rattle.base.specs.Choice.{pick}
 use Rattle.base.specs.Front.{onFront}
 use Rattle.text.specs.Pieces.{fixed}
-use Rattle.sheet.specs.Translation.{code, ordersOfAll, temporaries}
+use Rattle.sheet.specs.Sheet.{sheet, plain, end, send, constant, count, retargetPart}
+use Rattle.sheet.specs.Orders.{code, temporaries}
+use Rattle.sheet.specs.Condition.{asking, conditionTemporaries}
+use Rattle.sheet.specs.Translation.{size}
 use Rattle.sheet.specs.Fields.{expressionFields}
-use Rattle.sheet.specs.Sheet.{sheet, simple, send, constant}
 use Rattle.sheet.proofs.Worked.{workedSheet}
 use Rattle.source.specs.Cells.{outside, turn, sourceEnd, onTurn, statementsFrom}
 use Rattle.source.specs.Tokens.{firstOf, run, pastRun, decimalValue, textAt, packed, lexeme, onOne, lexemesIn}
 use Rattle.source.specs.Grammar.{next, opens, behindFirst, joined, startOf, operandBy, linksBy, expressionIn, named, jump, simpleAt, relationAt, labelsAt, labelledForm, isNameList, form}
-use Rattle.source.specs.Program.{sameName, wordFrom, allKnown, namesIn, canDeclare, numberOf, canSet, jumpsIn, all, firstUnset, statement}
+use Rattle.source.specs.Program.{append, countOutside, ordersOutside, sameName, wordFrom, allKnown, namesIn, canDeclare, isSet, canSet, moved, jumpsIn, all}
+use Rattle.source.specs.Program.{firstUnset, numberOf, closed, statement}
 use Rattle.source.specs.Source.{Answer, accepted, refusal, answer, onOutcome, program, notAllowed}
 
 pub record Example : Type 0 where
-  pub source : String
+  pub source : List ℕ
   pub is : Answer
 
 abbrev pub example : String → Answer → Example
-example s a = record { source = s; is = a }
+example s a = record { source = bytes s; is = a }
 
 -- "One program whole"
 abbrev pub worked : Example
@@ -59,7 +63,7 @@ abbrev pub quotesApart : Example
 quotesApart =
     example
     "%BEGIN;send('A' 'B')\n%ENDOFPRO%C\n%GRAM"
-    (accepted (sheet 0 (simple (send (constant 4269890)) ∷ [])))
+    (accepted (sheet 0 (plain (send (constant 4269890)) end)))
 
 abbrev pub examples : List Example
 examples =
@@ -73,6 +77,6 @@ examples =
     ∷ quotesApart
     ∷ []
 
-pub all-answered : map (λ e. answer (bytes (e .source))) examples ≡ map (λ e. e .is) examples
-unfolding bytes pick workedSheet fixed onFront code ordersOfAll temporaries expressionFields outside turn sourceEnd onTurn statementsFrom firstOf run pastRun decimalValue textAt packed lexeme onOne lexemesIn next opens behindFirst joined startOf operandBy linksBy expressionIn named jump simpleAt relationAt labelsAt labelledForm isNameList form sameName wordFrom allKnown namesIn canDeclare numberOf canSet jumpsIn all firstUnset statement onOutcome program notAllowed
+pub all-answered : map (λ e. answer (e .source)) examples ≡ map (λ e. e .is) examples
+unfolding bytes pick workedSheet fixed onFront count retargetPart code asking size temporaries conditionTemporaries expressionFields outside turn sourceEnd onTurn statementsFrom firstOf run pastRun decimalValue textAt packed lexeme onOne lexemesIn next opens behindFirst joined startOf operandBy linksBy expressionIn named jump simpleAt relationAt labelsAt labelledForm isNameList form append countOutside ordersOutside sameName wordFrom allKnown namesIn canDeclare isSet canSet moved jumpsIn all firstUnset numberOf closed statement onOutcome program notAllowed
 all-answered = refl

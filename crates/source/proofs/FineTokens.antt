@@ -10,7 +10,7 @@ use Rattle.base.specs.Text.{bytes}
 use Rattle.base.specs.Front.{found, missing, onFront}
 use Rattle.base.proofs.Cases.{either-part}
 use Rattle.text.specs.Pieces.{Front, fixed}
-use Rattle.sheet.proofs.Each.{Each}
+use Rattle.source.proofs.Each.{Each}
 use Rattle.source.specs.declared.Token.{Token}
 use Rattle.source.specs.declared.Token.the-variants.{Name, Number, Quoted, Binary, Compare, Mark}
 use Rattle.source.specs.Limits.{greatestConstant}
@@ -131,7 +131,7 @@ module _ (v : ℕ) where
     keyword-fine : OneFine (keywordAt (c ∷ cells))
     keyword-fine =
         on-front (firstOf keywords (c ∷ cells)) (wrong 5)
-        (first-fine keywords (tt, (tt, (tt, (tt, (tt, (tt, tt)))))) (c ∷ cells) h)
+        (first-fine keywords (tt, (tt, (tt, (tt, (tt, (tt, (tt, (tt, tt)))))))) (c ∷ cells) h)
         tt
 
     decimal-fine : OneFine (decimalAt (c ∷ cells))

@@ -1,14 +1,19 @@
 pub mod BoundedForms
 pub mod Bracketed
 pub mod Chains
+pub mod Each
 pub mod EveryCell
 pub mod Examples
+pub mod ExamplesOfGroups
 pub mod FineTokens
 pub mod Fuel
+pub mod GoodParts
 pub mod GoodProgram
 pub mod Joining
 pub mod KnownWords
 pub mod Numbering
+pub mod Parts
+pub mod Places
 pub mod Printed
 pub mod ReadSyntax
 pub mod Readings
@@ -21,4 +26,3 @@ pub mod SyntaxExamples
 pub mod SyntaxRead
 pub mod Turns
 pub mod WithinLimits
-pub mod Places

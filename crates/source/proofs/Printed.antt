@@ -2,11 +2,11 @@
 use Prim.Native.Nat.{ℕ}
 use mathlib.Core.Path.{_≡_, sym, ap, _∙_}
 use mathlib.Core.List.{List, [], _∷_, _++_, append-assoc}
-use Rattle.sheet.specs.Sheet.{Simple, set, send, goto, Instruction, simple, when, either}
-use Rattle.source.specs.Grammar.{labels, instruction, form}
-use Rattle.source.specs.Syntax.{Simply, assignment, sending, jump, Instructed, simply, conditional, alternative}
+use Rattle.sheet.specs.Sheet.{Simple, set, send, goto, Condition, compares}
+use Rattle.source.specs.Grammar.{Instruction, simple, ifThen, ifElse, ifStart, labels, instruction, form}
+use Rattle.source.specs.Syntax.{Simply, assignment, sending, jump, Asked, comparison, Instructed, simply, conditional, alternative, opening}
 use Rattle.source.specs.Syntax.{LabelList, none, label, instructed, alone}
-use Rattle.source.specs.Printed.{printedSimple, printedInstruction, printedLabels}
+use Rattle.source.specs.Printed.{printedSimple, printedCondition, printedInstruction, printedLabels}
 use Rattle.source.proofs.Syntax.{form-found}
 use Rattle.source.proofs.Bracketed.{printed-expressed}
 
@@ -15,12 +15,14 @@ printed-simple (set w e) = assignment w (printed-expressed e)
 printed-simple (send e) = sending (printed-expressed e)
 printed-simple (goto l) = jump l
 
+printed-condition : (c : Condition) → Asked (printedCondition c) c
+printed-condition (compares r a b) = comparison r (printed-expressed a) (printed-expressed b)
+
 printed-instruction : (i : Instruction) → Instructed (printedInstruction i) i
 printed-instruction (simple u) = simply (printed-simple u)
-printed-instruction (when r a b u) =
-    simp append-assoc at (conditional r (printed-expressed a) (printed-expressed b) (printed-simple u))
-printed-instruction (either r a b u w) =
-    simp append-assoc at (alternative r (printed-expressed a) (printed-expressed b) (printed-simple u) (printed-simple w))
+printed-instruction (ifThen c u) = conditional (printed-condition c) (printed-simple u)
+printed-instruction (ifElse c u w) = simp append-assoc at (alternative (printed-condition c) (printed-simple u) (printed-simple w))
+printed-instruction (ifStart c) = opening (printed-condition c)
 
 printed-labels : (ls : List ℕ) → LabelList (printedLabels ls) ls
 unfolding printedLabels

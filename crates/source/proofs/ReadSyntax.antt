@@ -11,17 +11,19 @@ use Rattle.base.proofs.Cases.{either-part, both-yes}
 use Rattle.word.specs.declared.Relation.{Relation}
 use Rattle.word.specs.declared.Relation.the-variants.{Equal, Unequal, Less, AtMost, Greater, AtLeast}
 use Rattle.sheet.specs.declared.Operator.the-variants.{Plus, Minus, Times, Over, Power, Left, Right, And, Or, Unlike}
-use Rattle.sheet.specs.Sheet.{Expression, Simple, set, send, Instruction, simple, when, either}
+use Rattle.sheet.specs.Sheet.{Expression, Simple, set, send, Condition, compares}
 use Rattle.source.specs.declared.Token.{Token}
 use Rattle.source.specs.declared.Token.the-variants.{Name, Number, Quoted, Binary, Compare, Mark}
 use Rattle.source.specs.Tokens.{markBegin, markEnd, markInteger, markIf, markThen, markElse, markArrow, markOpen}
-use Rattle.source.specs.Tokens.{markClose, markComma, markColon, markInvert}
+use Rattle.source.specs.Tokens.{markStart, markFinish, markClose, markComma, markColon, markInvert}
 use Rattle.source.specs.Grammar.{Read, read, none, next, past, isMark, opens, behindFirst, operandBy, linksBy, chainBy, expressionIn, expression}
-use Rattle.source.specs.Grammar.{link, Lead, bare, minus, invert, tree, start, startOf, sendWord, isEqual, named, jump, simpleAt, relationAt, chosen}
-use Rattle.source.specs.Grammar.{conditional, instructionAt, Form, beginning, declaration, ending, noForm, Labelled, labelled, further, labelsAt, whole, labelledForm, isName, isNameList, alone, form}
+use Rattle.source.specs.Grammar.{link, Lead, bare, minus, invert, tree, start, startOf, sendWord, isEqual, named, jump, simpleAt, relationAt, conditionAt}
+use Rattle.source.specs.Grammar.{Instruction, simple, ifThen, ifElse, ifStart, chosen, consequent, conditional, instructionAt}
+use Rattle.source.specs.Grammar.{Form, beginning, declaration, ending, finish, finishElse, noForm, Labelled, labelled, further, labelsAt, entire, labelledForm}
+use Rattle.source.specs.Grammar.{isName, isNameList, only, finishing, form}
 use Rattle.source.specs.Syntax.{later, Operand, named as name, decimal, quoted, bracketed, Expressed, expression as level-one, plus}
-use Rattle.source.specs.Syntax.{Simply, assignment, sending, jump as jumping, Instructed, simply, conditional as on-condition, alternative}
-use Rattle.source.specs.Syntax.{LabelList, none as no-label, label, NameList, last, comma, Stated, begin, integers, instructed, alone as labels-alone, end}
+use Rattle.source.specs.Syntax.{Simply, assignment, sending, jump as jumping, Asked, comparison, Instructed, simply, conditional as on-condition, alternative, opening}
+use Rattle.source.specs.Syntax.{LabelList, none as no-label, label, NameList, last, comma, Stated, begin, integers, instructed, alone as labels-alone, finishes, goes-on, end}
 use Rattle.source.proofs.SyntaxChains.{Links, none as no-links, linked, leadTokens, bare-level, sign-level}
 
 -- ---- marks
@@ -222,39 +224,49 @@ relation-taken (Binary o ∷ ts) = nothing
 relation-taken (Compare r ∷ ts) = taken (related r) ts
 relation-taken (Mark m ∷ ts) = nothing
 
+module _ {xs : List Token} {a : Expression} (c : Expressed xs a) where
+  second-taken : {vs : List Token} {r : Relation} → Related vs r → (ts : List Token)
+      → Taken (λ us k. Asked (xs ++ (vs ++ us)) k) ts (next (expression ts) (λ b rest. read (compares r a b) rest))
+  second-taken (related r) ts =
+      map-taken Expressed (λ us k. Asked (xs ++ Compare r ∷ us) k) (compares r a) (expression-taken ts)
+      (λ ys b d. comparison r c d)
+
+condition-taken : (ts : List Token) → Taken Asked ts (conditionAt ts)
+condition-taken ts =
+    next-taken Expressed Asked _ (expression-taken ts)
+    (λ xs a c behind-a. next-taken Related (λ us k. Asked (xs ++ us) k) _ (relation-taken behind-a)
+    (λ vs r q others. second-taken c q others))
+
 -- the tokens of an instruction, part by part from the left
 abbrev AfterIf : List Token → Instruction → Type 0
 AfterIf ts i = Instructed (Mark markIf ∷ ts) i
 
-module _ {xs : List Token} {a : Expression} (c : Expressed xs a) where
-  module _ (r : Relation) {ys us : List Token} {b : Expression} {u : Simple} (d : Expressed ys b) (s : Simply us u) where
-    abbrev AfterThen : List Token → Instruction → Type 0
-    AfterThen vs i = AfterIf (xs ++ Compare r ∷ (ys ++ Mark markThen ∷ (us ++ vs))) i
+module _ {xs : List Token} {c : Condition} (q : Asked xs c) where
+  abbrev AfterThen : List Token → Instruction → Type 0
+  AfterThen vs i = AfterIf (xs ++ Mark markThen ∷ vs) i
 
-    no-else : AfterThen [] (when r a b u)
-    no-else = rw (append-nil us) (simp append-assoc at (on-condition r c d s))
+  module _ {us : List Token} {u : Simple} (s : Simply us u) where
+    no-else : AfterThen (us ++ []) (ifThen c u)
+    no-else = rw (append-nil us) (on-condition q s)
 
-    chosen-taken : (ts : List Token) → Taken AfterThen ts (chosen r a b u ts)
+    chosen-taken : (ts : List Token) → Taken (λ vs i. AfterThen (us ++ vs) i) ts (chosen c u ts)
     chosen-taken ts =
-        by-mark (Taken AfterThen) markElse ts _ (read (when r a b u) ts)
-        (λ us. behind AfterThen (Mark markElse ∷ [])
-        (map-taken Simply (λ vs i. AfterThen (Mark markElse ∷ vs) i) (either r a b u) (simple-taken us)
-        (λ ws w t. simp append-assoc at (alternative r c d s t))))
+        by-mark (Taken (λ vs i. AfterThen (us ++ vs) i)) markElse ts _ (read (ifThen c u) ts)
+        (λ others. behind (λ vs i. AfterThen (us ++ vs) i) (Mark markElse ∷ [])
+        (map-taken Simply (λ vs i. AfterThen (us ++ Mark markElse ∷ vs) i) (ifElse c u) (simple-taken others)
+        (λ ws w t. simp append-assoc at (alternative q s t))))
         (taken no-else ts)
 
-  then-taken : {vs : List Token} {r : Relation} → Related vs r → (ts : List Token)
-      → Taken (λ us i. AfterIf (xs ++ (vs ++ us)) i) ts (next (expression ts) (λ b more. past markThen more (λ l. next (simpleAt l) (λ u rest. chosen r a b u rest))))
-  then-taken (related r) ts =
-      next-taken Expressed (λ us i. AfterIf (xs ++ Compare r ∷ us) i) _ (expression-taken ts)
-      (λ ys b d more. past-taken (λ us i. AfterIf (xs ++ Compare r ∷ (ys ++ us)) i) markThen more _
-      (λ l. next-taken Simply (λ us i. AfterIf (xs ++ Compare r ∷ (ys ++ Mark markThen ∷ us)) i) _ (simple-taken l)
-      (λ us u s rest. chosen-taken r d s rest)))
+  consequent-taken : (ts : List Token) → Taken AfterThen ts (consequent c ts)
+  consequent-taken ts =
+      by-mark (Taken AfterThen) markStart ts (λ l. read (ifStart c) l) _
+      (λ us. behind AfterThen (Mark markStart ∷ []) (taken (opening q) us))
+      (next-taken Simply AfterThen _ (simple-taken ts) (λ us u s rest. chosen-taken s rest))
 
 conditional-taken : (ts : List Token) → Taken AfterIf ts (conditional ts)
 conditional-taken ts =
-    next-taken Expressed AfterIf _ (expression-taken ts)
-    (λ xs a c behind-a. next-taken Related (λ us i. AfterIf (xs ++ us) i) _ (relation-taken behind-a)
-    (λ vs r q others. then-taken c q others))
+    next-taken Asked AfterIf _ (condition-taken ts)
+    (λ xs c q rest. past-taken (λ us i. AfterIf (xs ++ us) i) markThen rest _ (λ l. consequent-taken q l))
 
 instruction-taken : (ts : List Token) → Taken Instructed ts (instructionAt ts)
 instruction-taken ts =
@@ -290,19 +302,19 @@ pub data Finds : List Token → Form → Type 0 where
   finds : {ts : List Token} {f : Form} → Stated ts f → Finds ts f
   no-form : {ts : List Token} → Finds ts noForm
 
-whole-finds : {ts us : List Token} {ls : List ℕ} {x : Read Instruction} → LabelList ts ls → Taken Instructed us x → Finds (ts ++ us) (whole ls x)
-whole-finds l (taken {ts = us} i []) = rw (append-nil us) (finds (instructed l i))
-whole-finds l (taken i (t ∷ ts)) = no-form
-whole-finds l nothing = no-form
+entire-finds : {ts us : List Token} {ls : List ℕ} {x : Read Instruction} → LabelList ts ls → Taken Instructed us x → Finds (ts ++ us) (entire ls x)
+entire-finds l (taken {ts = us} i []) = rw (append-nil us) (finds (instructed l i))
+entire-finds l (taken i (t ∷ ts)) = no-form
+entire-finds l nothing = no-form
 
 labelled-finds : {ts : List Token} {x : Labelled} → LabelsTaken ts x → Finds ts (labelledForm x)
 unfolding labelledForm
 labelled-finds (labels-taken {ts = us} l []) = rw (append-nil us) (finds (labels-alone l))
-labelled-finds (labels-taken l (t ∷ ts)) = whole-finds l (instruction-taken (t ∷ ts))
+labelled-finds (labels-taken l (t ∷ ts)) = entire-finds l (instruction-taken (t ∷ ts))
 
-alone-finds : (m : ℕ) (f : Form) → Stated (Mark m ∷ []) f → (ts : List Token) → Finds (Mark m ∷ ts) (alone f ts)
-alone-finds m f s [] = finds s
-alone-finds m f s (t ∷ ts) = no-form
+only-finds : (front : List Token) (f : Form) → Stated front f → (ts : List Token) → Finds (front ++ ts) (only f ts)
+only-finds front f s [] = rw (append-nil front) (finds s)
+only-finds front f s (t ∷ ts) = no-form
 
 is-name : (t : Token) → isName t ≡ true → (w : ℕ) × (Name w ≡ t)
 is-name (Name w) y = (w, refl)
@@ -329,10 +341,20 @@ names-finds ts =
     (λ y. finds (integers (name-list ts y)))
     (λ n. no-form)
 
+finish-finds : (ts : List Token) → Finds (Mark markFinish ∷ ts) (finishing ts)
+unfolding finishing
+finish-finds ts =
+    by-mark (λ us f. Finds (Mark markFinish ∷ us) f) markElse ts _ (only finish ts)
+    (λ us. by-mark (λ vs f. Finds (Mark markFinish ∷ Mark markElse ∷ vs) f) markStart us (only finishElse) noForm
+    (only-finds (Mark markFinish ∷ Mark markElse ∷ Mark markStart ∷ []) finishElse goes-on)
+    no-form)
+    (only-finds (Mark markFinish ∷ []) finish finishes ts)
+
 -- sound: every form that is found the syntax has
 pub form-finds : (ts : List Token) → Finds ts (form ts)
 unfolding form
 form-finds ts =
-    by-mark Finds markBegin ts (alone beginning) _ (alone-finds markBegin beginning begin)
-    (by-mark Finds markEnd ts (alone ending) _ (alone-finds markEnd ending end)
-    (by-mark Finds markInteger ts (λ us. pick (isNameList us) declaration noForm) _ names-finds (labelled-finds (labels-at ts))))
+    by-mark Finds markBegin ts (only beginning) _ (only-finds (Mark markBegin ∷ []) beginning begin)
+    (by-mark Finds markEnd ts (only ending) _ (only-finds (Mark markEnd ∷ []) ending end)
+    (by-mark Finds markInteger ts (λ us. pick (isNameList us) declaration noForm) _ names-finds
+    (by-mark Finds markFinish ts finishing _ finish-finds (labelled-finds (labels-at ts)))))

@@ -9,7 +9,7 @@ use lib.Dec.{leb, ltb, eqb}
 use lib.ListN.{length, take}
 use Rattle.base.specs.Choice.{pick}
 use Rattle.base.proofs.Cases.{by-test, both-yes, chosen-first, either-part}
-use Rattle.sheet.proofs.Each.{Each, each-append}
+use Rattle.source.proofs.Each.{Each, each-append}
 use Rattle.source.specs.declared.Mode.{Mode}
 use Rattle.source.specs.declared.Mode.the-variants.{Plain, Keyword, Quoted, Comment}
 use Rattle.source.specs.Limits.{mostCells}

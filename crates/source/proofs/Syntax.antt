@@ -3,8 +3,8 @@
 use mathlib.Core.Path.{_≡_, refl, sym, subst, _∙_}
 use mathlib.Core.List.{List}
 use Rattle.source.specs.declared.Token.{Token}
-use Rattle.source.specs.Grammar.{Form, beginning, declaration, ending, labels, instruction, noForm, form}
-use Rattle.source.specs.Syntax.{Stated, begin, integers, instructed, alone, end}
+use Rattle.source.specs.Grammar.{Form, beginning, declaration, ending, labels, instruction, finish, finishElse, noForm, form}
+use Rattle.source.specs.Syntax.{Stated, begin, integers, instructed, alone, finishes, goes-on, end}
 use Rattle.source.proofs.SyntaxRead.{form-read}
 use Rattle.source.proofs.ReadSyntax.{Finds, finds, no-form, form-finds}
 
@@ -14,6 +14,8 @@ IsForm declaration = Unit {0}
 IsForm ending = Unit {0}
 IsForm (labels ls) = Unit {0}
 IsForm (instruction ls i) = Unit {0}
+IsForm finish = Unit {0}
+IsForm finishElse = Unit {0}
 IsForm noForm = ⊥
 
 is-form : {ts : List Token} {f : Form} → Stated ts f → IsForm f
@@ -21,6 +23,8 @@ is-form begin = tt
 is-form (integers ns) = tt
 is-form (instructed l i) = tt
 is-form (alone l) = tt
+is-form finishes = tt
+is-form goes-on = tt
 is-form end = tt
 
 -- ---- the statements

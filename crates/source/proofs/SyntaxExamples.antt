@@ -1,16 +1,16 @@
 -- What the syntax has and has not, by computation: statements of no form, and what the levels make of expressions.
 use mathlib.Core.Path.{_≡_, refl, subst}
-use mathlib.Core.List.{List, [], _∷_}
+use mathlib.Core.List.{List, [], _∷_, _++_}
 use Rattle.base.specs.Choice.{pick}
 use Rattle.word.specs.declared.Relation.the-variants.{Equal, Unequal}
 use Rattle.sheet.specs.declared.Operator.the-variants.{Plus, Minus, Times, Over, Power}
-use Rattle.sheet.specs.Sheet.{Expression, word, constant, negated, inverted, binary, simple, set}
-use Rattle.sheet.proofs.Each.{Each}
+use Rattle.sheet.specs.Sheet.{Expression, word, constant, negated, inverted, binary, set}
+use Rattle.source.proofs.Each.{Each}
 use Rattle.source.specs.declared.Token.{Token}
 use Rattle.source.specs.declared.Token.the-variants.{Name, Number, Binary, Compare, Mark}
-use Rattle.source.specs.Tokens.{markOpen, markClose, markInvert, markArrow}
-use Rattle.source.specs.Grammar.{Form, instruction, next, opens, behindFirst, joined, startOf, operandBy, linksBy, expressionIn}
-use Rattle.source.specs.Grammar.{named, jump, simpleAt, labelsAt, labelledForm, form}
+use Rattle.source.specs.Tokens.{markIf, markThen, markElse, markStart, markFinish, markOpen, markClose, markColon, markInvert, markArrow}
+use Rattle.source.specs.Grammar.{simple, Form, instruction, next, opens, behindFirst, joined, startOf, operandBy, linksBy, expressionIn}
+use Rattle.source.specs.Grammar.{named, jump, simpleAt, relationAt, labelsAt, labelledForm, finishing, form}
 use Rattle.source.specs.Syntax.{Stated}
 use Rattle.source.proofs.Syntax.{IsForm, form-stated, none-stated}
 
@@ -26,8 +26,12 @@ b = Name 3
 
 -- ---- no form
 
+abbrev goto-one : List Token
+goto-one = Mark markArrow ∷ Number 1 ∷ []
+
 -- a sign behind an operator, `A = A*-B`; two signs, `A = -\B`; a name before brackets that is not SEND, `A(1)`; a jump to a
--- name, `->A`; another relation than `=`, `A#B`
+-- name, `->A`; another relation than `=`, `A#B`; and mixtures of groups: `%IF A=B %THEN ->1 %ELSE %START`, `%IF A=B %THEN %START ->1`,
+-- `%START`, `1:%FINISH`, `%FINISH %ELSE ->1`
 abbrev formless : List (List Token)
 formless =
     assigned (a ∷ Binary Times ∷ Binary Minus ∷ b ∷ [])
@@ -35,11 +39,43 @@ formless =
     ∷ (a ∷ Mark markOpen ∷ Number 1 ∷ Mark markClose ∷ [])
     ∷ (Mark markArrow ∷ a ∷ [])
     ∷ (a ∷ Compare Unequal ∷ b ∷ [])
+    ∷ (Mark markIf ∷ a ∷ Compare Equal ∷ b ∷ Mark markThen ∷ (goto-one ++ Mark markElse ∷ Mark markStart ∷ []))
+    ∷ (Mark markIf ∷ a ∷ Compare Equal ∷ b ∷ Mark markThen ∷ Mark markStart ∷ goto-one)
+    ∷ (Mark markStart ∷ [])
+    ∷ (Number 1 ∷ Mark markColon ∷ Mark markFinish ∷ [])
+    ∷ (Mark markFinish ∷ Mark markElse ∷ goto-one)
     ∷ []
 
 pub no-form : Each (λ ts. (f : Form) → Stated ts f → ⊥) formless
-unfolding pick next opens behindFirst joined startOf operandBy linksBy expressionIn named jump simpleAt labelsAt labelledForm form
-no-form = (none-stated _ refl, (none-stated _ refl, (none-stated _ refl, (none-stated _ refl, (none-stated _ refl, tt)))))
+unfolding pick next opens behindFirst joined startOf operandBy linksBy expressionIn named jump simpleAt relationAt labelsAt labelledForm finishing form
+no-form = (
+  none-stated _ refl,
+  (
+    none-stated _ refl,
+    (
+      none-stated _ refl,
+      (
+        none-stated _ refl,
+        (
+          none-stated _ refl,
+          (
+            none-stated _ refl,
+            (
+              none-stated _ refl,
+              (
+                none-stated _ refl,
+                (
+                  none-stated _ refl,
+                  (none-stated _ refl, tt),
+                ),
+              ),
+            ),
+          ),
+        ),
+      ),
+    ),
+  ),
+)
 
 -- ---- expressions
 

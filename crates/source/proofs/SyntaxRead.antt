@@ -7,18 +7,18 @@ use mathlib.Core.List.{List, [], _∷_, _++_, append-assoc, append-nil}
 use native.Mathlib.Omega.{arith}
 use lib.ListN.{length, length-append}
 use Rattle.base.specs.Choice.{pick}
-use Rattle.word.specs.declared.Relation.{Relation}
 use Rattle.sheet.specs.declared.Operator.the-variants.{Plus}
-use Rattle.sheet.specs.Sheet.{Expression, Simple, set, send, Instruction, when, either}
+use Rattle.sheet.specs.Sheet.{Expression, Simple, set, send, Condition}
 use Rattle.source.specs.declared.Token.{Token}
 use Rattle.source.specs.declared.Token.the-variants.{Name, Number, Quoted, Binary, Compare, Mark}
-use Rattle.source.specs.Tokens.{markIf, markThen, markElse, markArrow, markClose}
+use Rattle.source.specs.Tokens.{markIf, markThen, markElse, markArrow, markStart, markClose}
 use Rattle.source.specs.Grammar.{Read, read, next, past, opens, behindFirst, operandBy, linksBy, chainBy, expressionIn, expression}
-use Rattle.source.specs.Grammar.{Link, Lead, bare, minus, invert, tree, start, startOf, named, jump, simpleAt, relationAt, chosen}
-use Rattle.source.specs.Grammar.{conditional, instructionAt, Form, labelled, further, labelsAt, whole, labelledForm, isNameList, form}
+use Rattle.source.specs.Grammar.{Link, Lead, bare, minus, invert, tree, start, startOf, named, jump, simpleAt, relationAt, conditionAt}
+use Rattle.source.specs.Grammar.{Instruction, ifThen, ifElse, chosen, consequent, conditional, instructionAt}
+use Rattle.source.specs.Grammar.{Form, labelled, further, labelsAt, entire, labelledForm, isNameList, finishing, form}
 use Rattle.source.specs.Syntax.{Place, later, Operand, named as name, decimal, quoted, bracketed, Expressed, expression as level-one, plus}
-use Rattle.source.specs.Syntax.{Simply, assignment, sending, jump as jumping, Instructed, simply, conditional as on-condition, alternative}
-use Rattle.source.specs.Syntax.{LabelList, none, label, NameList, last, comma, Stated, begin, integers, instructed, alone, end}
+use Rattle.source.specs.Syntax.{Simply, assignment, sending, jump as jumping, Asked, comparison, Instructed, simply, conditional as on-condition, alternative, opening}
+use Rattle.source.specs.Syntax.{LabelList, none, label, NameList, last, comma, Stated, begin, integers, instructed, alone, finishes, goes-on, end}
 use Rattle.source.specs.Printed.{Ends}
 use Rattle.source.proofs.SyntaxChains.{Links, none as no-links, linked, leadTokens, Chained, chained, unsigned, level-chain}
 
@@ -176,29 +176,37 @@ simple-found (jumping l) rest f = refl
 simple-alone : {ts : List Token} {u : Simple} → Simply ts u → simpleAt ts ≡ read u []
 simple-alone {ts} s = ap simpleAt (sym (append-nil ts)) ∙ simple-found s [] tt
 
-module _ {xs ys us : List Token} {a b : Expression} {u : Simple} (r : Relation) (c : Expressed xs a) (d : Expressed ys b) (s : Simply us u) where
-  then-found : (rest : List Token) → Ends rest
-      → conditional (xs ++ Compare r ∷ (ys ++ Mark markThen ∷ (us ++ rest))) ≡ chosen r a b u rest
-  unfolding next relationAt pick opens behindFirst
-  then-found rest f =
-      rw (
-        expression-found c (Compare r ∷ (ys ++ Mark markThen ∷ (us ++ rest))) tt,
-        expression-found d (Mark markThen ∷ (us ++ rest)) tt,
-        simple-found s rest f,
-      )
-      refl
+condition-found : {xs : List Token} {c : Condition} → Asked xs c → (rest : List Token) → Ends rest → conditionAt (xs ++ rest) ≡ read c rest
+unfolding next relationAt
+condition-found (comparison {xs = xs} {ys = ys} r c d) rest f =
+    rw (append-assoc xs (Compare r ∷ ys) rest, expression-found c (Compare r ∷ (ys ++ rest)) tt, expression-found d rest f) refl
 
-  when-found : conditional (xs ++ Compare r ∷ (ys ++ Mark markThen ∷ us)) ≡ read (when r a b u) []
-  unfolding opens pick
-  when-found =
-      ap (λ ts. conditional (xs ++ Compare r ∷ (ys ++ Mark markThen ∷ ts))) (sym (append-nil us)) ∙ then-found [] tt
+-- no simple instruction begins with %START
+no-start : {ts : List Token} {u : Simple} → Simply ts u → (rest : List Token) → opens markStart (ts ++ rest) ≡ false
+unfolding opens
+no-start (assignment w d) rest = refl
+no-start (sending d) rest = refl
+no-start (jumping l) rest = refl
 
-  either-found : {ws : List Token} {w : Simple} → Simply ws w
-      → conditional (xs ++ Compare r ∷ (ys ++ Mark markThen ∷ (us ++ Mark markElse ∷ ws))) ≡ read (either r a b u w) []
-  unfolding opens pick behindFirst next
-  either-found {ws} {w} t =
-      then-found (Mark markElse ∷ ws) tt
-      ∙ ap (λ x. next x (λ v rest. read (either r a b u v) rest)) (simple-alone t)
+module _ {xs : List Token} {c : Condition} (q : Asked xs c) where
+  condition-then : (ts : List Token) → conditional (xs ++ Mark markThen ∷ ts) ≡ consequent c ts
+  unfolding next pick opens behindFirst
+  condition-then ts = rw (condition-found q (Mark markThen ∷ ts) tt) refl
+
+  module _ {us : List Token} {u : Simple} (s : Simply us u) where
+    then-found : (rest : List Token) → Ends rest → conditional (xs ++ Mark markThen ∷ (us ++ rest)) ≡ chosen c u rest
+    unfolding next pick
+    then-found rest f = condition-then (us ++ rest) ∙ rw (no-start s rest, simple-found s rest f) refl
+
+    when-found : conditional (xs ++ Mark markThen ∷ us) ≡ read (ifThen c u) []
+    unfolding opens pick
+    when-found = ap (λ ts. conditional (xs ++ Mark markThen ∷ ts)) (sym (append-nil us)) ∙ then-found [] tt
+
+    either-found : {ws : List Token} {w : Simple} → Simply ws w
+        → conditional (xs ++ Mark markThen ∷ (us ++ Mark markElse ∷ ws)) ≡ read (ifElse c u w) []
+    unfolding opens pick behindFirst next
+    either-found {ws} {w} t =
+        then-found (Mark markElse ∷ ws) tt ∙ ap (λ x. next x (λ v rest. read (ifElse c u v) rest)) (simple-alone t)
 
 -- what an instruction begins with
 data Opening : List Token → Type 0 where
@@ -206,12 +214,13 @@ data Opening : List Token → Type 0 where
   by-arrow : (ts : List Token) → Opening (Mark markArrow ∷ ts)
   by-if : (ts : List Token) → Opening (Mark markIf ∷ ts)
 
-opening : {ts : List Token} {i : Instruction} → Instructed ts i → Opening ts
-opening (simply (assignment w d)) = by-name _ _
-opening (simply (sending d)) = by-name _ _
-opening (simply (jumping l)) = by-arrow _
-opening (on-condition r c d s) = by-if _
-opening (alternative r c d s t) = by-if _
+opening-of : {ts : List Token} {i : Instruction} → Instructed ts i → Opening ts
+opening-of (simply (assignment w d)) = by-name _ _
+opening-of (simply (sending d)) = by-name _ _
+opening-of (simply (jumping l)) = by-arrow _
+opening-of (on-condition q s) = by-if _
+opening-of (alternative q s t) = by-if _
+opening-of (opening q) = by-if _
 
 no-if : {ts : List Token} {u : Simple} → Simply ts u → opens markIf ts ≡ false
 unfolding opens
@@ -222,14 +231,10 @@ no-if (jumping l) = refl
 pub instruction-found : {ts : List Token} {i : Instruction} → Instructed ts i → instructionAt ts ≡ read i []
 unfolding pick opens behindFirst next
 instruction-found (simply s) = rw (no-if s, simple-alone s) refl
-instruction-found (on-condition {xs = xs} {ys = ys} {us = us} r c d s) =
-    rw (append-assoc xs (Compare r ∷ ys) (Mark markThen ∷ us)) (when-found r c d s)
-instruction-found (alternative {xs = xs} {ys = ys} {us = us} {ws = ws} r c d s t) =
-    rw (
-      append-assoc (xs ++ Compare r ∷ ys) (Mark markThen ∷ us) (Mark markElse ∷ ws),
-      append-assoc xs (Compare r ∷ ys) (Mark markThen ∷ (us ++ Mark markElse ∷ ws)),
-    )
-    (either-found r c d s t)
+instruction-found (on-condition q s) = when-found q s
+instruction-found (alternative {xs = xs} {us = us} {ws = ws} q s t) =
+    rw (append-assoc xs (Mark markThen ∷ us) (Mark markElse ∷ ws)) (either-found q s t)
+instruction-found (opening q) = condition-then q (Mark markStart ∷ [])
 
 -- ---- statements
 
@@ -244,13 +249,13 @@ no-label (by-name w ts) = refl
 no-label (by-arrow ts) = refl
 no-label (by-if ts) = refl
 
-behind-labels : {ts : List Token} (ls : List ℕ) → Opening ts → labelledForm (labelled ls ts) ≡ whole ls (instructionAt ts)
+behind-labels : {ts : List Token} (ls : List ℕ) → Opening ts → labelledForm (labelled ls ts) ≡ entire ls (instructionAt ts)
 unfolding labelledForm
 behind-labels ls (by-name w ts) = refl
 behind-labels ls (by-arrow ts) = refl
 behind-labels ls (by-if ts) = refl
 
--- neither %BEGIN nor %ENDOFPROGRAM nor %INTEGER stands at the front
+-- none of %BEGIN, %ENDOFPROGRAM, %INTEGER and %FINISH stands at the front
 no-keyword : {ts us : List Token} {ls : List ℕ} → LabelList ts ls → Opening us → form (ts ++ us) ≡ labelledForm (labelsAt (ts ++ us))
 unfolding form opens pick
 no-keyword none (by-name w us) = refl
@@ -269,14 +274,16 @@ names-found (comma w ns) = names-found ns
 
 -- every form that the syntax has is found
 pub form-read : {ts : List Token} {f : Form} → Stated ts f → form ts ≡ f
-unfolding form pick opens behindFirst labelledForm
+unfolding form pick opens behindFirst labelledForm finishing
 form-read begin = refl
 form-read (integers ns) = rw (names-found ns) refl
 form-read (instructed {ls = ls} l i) =
-    no-keyword l (opening i)
-    ∙ ap labelledForm (labels-found l (no-label (opening i)))
-    ∙ behind-labels ls (opening i)
-    ∙ ap (whole ls) (instruction-found i)
+    no-keyword l (opening-of i)
+    ∙ ap labelledForm (labels-found l (no-label (opening-of i)))
+    ∙ behind-labels ls (opening-of i)
+    ∙ ap (entire ls) (instruction-found i)
 form-read (alone none) = ap labelledForm (labels-alone none)
 form-read (alone (label l ls)) = ap labelledForm (labels-alone (label l ls))
+form-read finishes = refl
+form-read goes-on = refl
 form-read end = refl

@@ -1,4 +1,4 @@
--- From tokens to statements, document 01 ("Statements"). Comments in quotes are document 01's words.
+-- From tokens to statements, document 01 ("Statements") and 02, L1. Comments in quotes are their words.
 use Prim.Native.Nat.{ℕ, zero, suc}
 use mathlib.Core.Bool.{Bool, true, false}
 use mathlib.Core.List.{List, [], _∷_}
@@ -10,11 +10,11 @@ use Rattle.word.specs.declared.Relation.the-variants.{Equal, Unequal, Less, AtM
 use Rattle.sheet.specs.declared.Operator.{Operator}
 use Rattle.sheet.specs.declared.Operator.the-variants.{Plus, Minus, Times, Over, Power, Left, Right, And, Or, Unlike}
 use Rattle.sheet.specs.Sheet.{Expression, word, constant, negated, inverted, binary, Simple, set, send, goto}
-use Rattle.sheet.specs.Sheet.{Instruction, simple, when, either}
+use Rattle.sheet.specs.Sheet.{Condition, compares}
 use Rattle.source.specs.declared.Token.{Token}
 use Rattle.source.specs.declared.Token.the-variants.{Name, Number, Quoted, Binary, Compare, Mark}
 use Rattle.source.specs.Tokens.{markBegin, markEnd, markInteger, markIf, markThen, markElse, markArrow, markOpen}
-use Rattle.source.specs.Tokens.{markClose, markComma, markColon, markInvert}
+use Rattle.source.specs.Tokens.{markStart, markFinish, markClose, markComma, markColon, markInvert}
 
 -- ---- reading at the front of tokens
 
@@ -168,7 +168,7 @@ abbrev pub expression : List Token → Read Expression
 expression ts = expressionIn (length ts) ts
 
 -- ---- instructions. "An instruction is `name = expr`, `SEND(expr)`, `->label`, or `%IF expr rel expr %THEN u` with an
--- optional `%ELSE u`, where u is one of the first three."
+-- optional `%ELSE u`, where u is one of the first three", or begins with "`%IF .. %THEN %START`".
 
 -- SEND is looked up as word 1, which no variable has
 abbrev pub sendWord : ℕ
@@ -225,23 +225,39 @@ relationAt (Binary o ∷ ts) = none
 relationAt (Compare r ∷ ts) = read r ts
 relationAt (Mark m ∷ ts) = none
 
-abbrev pub chosen : Relation → Expression → Expression → Simple → List Token → Read Instruction
-chosen r a b u ts =
+-- a condition: "expr rel expr"
+abbrev pub conditionAt : List Token → Read Condition
+conditionAt ts =
+    next
+    (expression ts)
+    (λ a behind. next (relationAt behind) (λ r others. next (expression others) (λ b rest. read (compares r a b) rest)))
+
+-- what a statement that is an instruction says: u alone; `%IF c %THEN u`; the same with `%ELSE u`; or `%IF c %THEN %START`
+pub data Instruction : Type 0 where
+  simple : Simple → Instruction
+  ifThen : Condition → Simple → Instruction
+  ifElse : Condition → Simple → Simple → Instruction
+  ifStart : Condition → Instruction
+
+-- behind the first u of an IF
+abbrev pub chosen : Condition → Simple → List Token → Read Instruction
+chosen c u ts =
     pick
     (opens markElse ts)
-    (next (simpleAt (behindFirst ts)) (λ w rest. read (either r a b u w) rest))
-    (read (when r a b u) ts)
+    (next (simpleAt (behindFirst ts)) (λ w rest. read (ifElse c u w) rest))
+    (read (ifThen c u) ts)
+
+-- behind %THEN
+abbrev pub consequent : Condition → List Token → Read Instruction
+consequent c ts =
+    pick
+    (opens markStart ts)
+    (read (ifStart c) (behindFirst ts))
+    (next (simpleAt ts) (λ u rest. chosen c u rest))
 
 -- behind %IF
 abbrev pub conditional : List Token → Read Instruction
-conditional ts =
-    next
-    (expression ts)
-    (λ a behind. next
-    (relationAt behind)
-    (λ r others. next
-    (expression others)
-    (λ b more. past markThen more (λ l. next (simpleAt l) (λ u rest. chosen r a b u rest)))))
+conditional ts = next (conditionAt ts) (λ c rest. past markThen rest (λ l. consequent c l))
 
 abbrev pub instructionAt : List Token → Read Instruction
 instructionAt ts =
@@ -249,13 +265,15 @@ instructionAt ts =
 
 -- ---- statements
 
--- what a statement is; labels and jumps are those of the source
+-- what a statement is; labels and jumps are those of the source. `finishElse` is `%FINISH %ELSE %START`
 pub data Form : Type 0 where
   beginning : Form
   declaration : Form
   ending : Form
   labels : List ℕ → Form
   instruction : List ℕ → Instruction → Form
+  finish : Form
+  finishElse : Form
   noForm : Form
 
 -- "Any number of `label:` may stand before an instruction or alone": the labels, and the tokens behind them
@@ -276,14 +294,14 @@ labelsAt (Compare r ∷ ts) = labelled [] (Compare r ∷ ts)
 labelsAt (Mark m ∷ ts) = labelled [] (Mark m ∷ ts)
 
 -- the statement is nothing more
-abbrev pub whole : List ℕ → Read Instruction → Form
-whole ls none = noForm
-whole ls (read i []) = instruction ls i
-whole ls (read i (t ∷ ts)) = noForm
+abbrev pub entire : List ℕ → Read Instruction → Form
+entire ls none = noForm
+entire ls (read i []) = instruction ls i
+entire ls (read i (t ∷ ts)) = noForm
 
 unfoldable pub labelledForm : Labelled → Form
 labelledForm (labelled ls []) = labels ls
-labelledForm (labelled ls (t ∷ ts)) = whole ls (instructionAt (t ∷ ts))
+labelledForm (labelled ls (t ∷ ts)) = entire ls (instructionAt (t ∷ ts))
 
 abbrev pub isName : Token → Bool
 isName (Name w) = true
@@ -299,19 +317,28 @@ isNameList [] = false
 isNameList (t ∷ []) = isName t
 isNameList (t ∷ u ∷ ts) = pick (isName t) (pick (isMark markComma u) (isNameList ts) false) false
 
-abbrev pub alone : Form → List Token → Form
-alone f [] = f
-alone f (t ∷ ts) = noForm
+-- nothing stands behind it
+abbrev pub only : Form → List Token → Form
+only f [] = f
+only f (t ∷ ts) = noForm
+
+-- behind %FINISH
+unfoldable pub finishing : List Token → Form
+finishing ts =
+    pick
+    (opens markElse ts)
+    (pick (opens markStart (behindFirst ts)) (only finishElse (behindFirst (behindFirst ts))) noForm)
+    (only finish ts)
 
 unfoldable pub form : List Token → Form
 form ts =
     pick
     (opens markBegin ts)
-    (alone beginning (behindFirst ts))
+    (only beginning (behindFirst ts))
     (pick
     (opens markEnd ts)
-    (alone ending (behindFirst ts))
+    (only ending (behindFirst ts))
     (pick
     (opens markInteger ts)
     (pick (isNameList (behindFirst ts)) declaration noForm)
-    (labelledForm (labelsAt ts))))
+    (pick (opens markFinish ts) (finishing (behindFirst ts)) (labelledForm (labelsAt ts)))))

@@ -4,6 +4,7 @@ pub mod Tokens
 pub mod Grammar
 pub mod Syntax
 pub mod Printed
+pub mod Fields
 pub mod Program
 pub mod Source
 pub mod Memory

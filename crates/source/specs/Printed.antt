@@ -4,11 +4,11 @@ use mathlib.Core.List.{List, [], _∷_, _++_}
 use Rattle.word.specs.declared.Relation.the-variants.{Equal}
 use Rattle.sheet.specs.declared.Operator.the-variants.{Minus}
 use Rattle.sheet.specs.Sheet.{Expression, word, constant, negated, inverted, binary, Simple, set, send, goto}
-use Rattle.sheet.specs.Sheet.{Instruction, simple, when, either}
+use Rattle.sheet.specs.Sheet.{Condition, compares}
 use Rattle.source.specs.declared.Token.{Token}
 use Rattle.source.specs.declared.Token.the-variants.{Name, Number, Quoted, Binary, Compare, Mark}
-use Rattle.source.specs.Tokens.{markIf, markThen, markElse, markArrow, markOpen, markClose, markColon, markInvert}
-use Rattle.source.specs.Grammar.{sendWord}
+use Rattle.source.specs.Tokens.{markIf, markThen, markElse, markStart, markArrow, markOpen, markClose, markColon, markInvert}
+use Rattle.source.specs.Grammar.{sendWord, Instruction, simple, ifThen, ifElse, ifStart}
 
 unfoldable pub printed : Expression → List Token
 printed (word w) = Name w ∷ []
@@ -22,13 +22,15 @@ printedSimple (set w e) = Name w ∷ Compare Equal ∷ printed e
 printedSimple (send e) = Name sendWord ∷ Mark markOpen ∷ (printed e ++ (Mark markClose ∷ []))
 printedSimple (goto l) = Mark markArrow ∷ Number l ∷ []
 
+abbrev pub printedCondition : Condition → List Token
+printedCondition (compares r a b) = printed a ++ (Compare r ∷ printed b)
+
 abbrev pub printedInstruction : Instruction → List Token
 printedInstruction (simple u) = printedSimple u
-printedInstruction (when r a b u) =
-    Mark markIf ∷ (printed a ++ (Compare r ∷ (printed b ++ (Mark markThen ∷ printedSimple u))))
-printedInstruction (either r a b u w) =
-    Mark markIf
-    ∷ (printed a ++ (Compare r ∷ (printed b ++ (Mark markThen ∷ (printedSimple u ++ (Mark markElse ∷ printedSimple w))))))
+printedInstruction (ifThen c u) = Mark markIf ∷ (printedCondition c ++ (Mark markThen ∷ printedSimple u))
+printedInstruction (ifElse c u w) =
+    Mark markIf ∷ (printedCondition c ++ (Mark markThen ∷ (printedSimple u ++ (Mark markElse ∷ printedSimple w))))
+printedInstruction (ifStart c) = Mark markIf ∷ (printedCondition c ++ (Mark markThen ∷ Mark markStart ∷ []))
 
 unfoldable pub printedLabels : List ℕ → List Token
 printedLabels [] = []

@@ -1,7 +1,7 @@
--- The syntax of statements, document 01 ("Statements"), as relations between tokens and what they stand for. It speaks of no
--- reader: proofs/Syntax shows that `form` of Grammar finds these forms and no others. In tokens a name is its word, and SEND
--- is `sendWord`; whether a name is known, and whether a label is "1 to 9999", is no matter of form. Comments in quotes are
--- document 01's words.
+-- The syntax of statements, document 01 ("Statements") and 02, L1, as relations between tokens and what they stand for. It
+-- speaks of no reader: proofs/Syntax shows that `form` of Grammar finds these forms and no others. In tokens a name is its word,
+-- and SEND is `sendWord`; whether a name is known, and whether a label is "1 to 9999", is no matter of form. Comments in quotes
+-- are their words.
 use Prim.Native.Nat.{ℕ, suc}
 use mathlib.Core.List.{List, [], _∷_, _++_}
 use Rattle.word.specs.declared.Relation.{Relation}
@@ -9,12 +9,13 @@ use Rattle.word.specs.declared.Relation.the-variants.{Equal}
 use Rattle.sheet.specs.declared.Operator.{Operator}
 use Rattle.sheet.specs.declared.Operator.the-variants.{Plus, Minus}
 use Rattle.sheet.specs.Sheet.{Expression, word, constant, negated, inverted, binary, Simple, set, send, goto}
-use Rattle.sheet.specs.Sheet.{Instruction, simple, when, either}
+use Rattle.sheet.specs.Sheet.{Condition, compares}
 use Rattle.source.specs.declared.Token.{Token}
 use Rattle.source.specs.declared.Token.the-variants.{Name, Number, Quoted, Binary, Compare, Mark}
 use Rattle.source.specs.Tokens.{markBegin, markEnd, markInteger, markIf, markThen, markElse, markArrow, markOpen}
-use Rattle.source.specs.Tokens.{markClose, markComma, markColon, markInvert}
-use Rattle.source.specs.Grammar.{level, sendWord, Form, beginning, declaration, ending, labels, instruction}
+use Rattle.source.specs.Tokens.{markStart, markFinish, markClose, markComma, markColon, markInvert}
+use Rattle.source.specs.Grammar.{level, sendWord, Instruction, simple, ifThen, ifElse, ifStart}
+use Rattle.source.specs.Grammar.{Form, beginning, declaration, ending, labels, instruction, finish, finishElse}
 
 -- ---- expressions. "An expression may begin with one `+`, `-` or `\`, also inside brackets, nowhere else."
 
@@ -59,13 +60,20 @@ pub data Simply : List Token → Simple → Type 0 where
       → Simply (Name sendWord ∷ Mark markOpen ∷ ts ++ Mark markClose ∷ []) (send e)
   jump : (l : ℕ) → Simply (Mark markArrow ∷ Number l ∷ []) (goto l)
 
+-- "expr rel expr"
+pub data Asked : List Token → Condition → Type 0 where
+  comparison : {xs ys : List Token} {a b : Expression} (r : Relation) → Expressed xs a → Expressed ys b
+      → Asked (xs ++ Compare r ∷ ys) (compares r a b)
+
 pub data Instructed : List Token → Instruction → Type 0 where
   simply : {ts : List Token} {u : Simple} → Simply ts u → Instructed ts (simple u)
-  conditional : {xs ys us : List Token} {a b : Expression} {u : Simple} (r : Relation) → Expressed xs a → Expressed ys b
-      → Simply us u → Instructed (Mark markIf ∷ xs ++ Compare r ∷ ys ++ Mark markThen ∷ us) (when r a b u)
-  alternative : {xs ys us ws : List Token} {a b : Expression} {u w : Simple} (r : Relation) → Expressed xs a → Expressed ys b
-      → Simply us u → Simply ws w
-      → Instructed (Mark markIf ∷ xs ++ Compare r ∷ ys ++ Mark markThen ∷ us ++ Mark markElse ∷ ws) (either r a b u w)
+  conditional : {xs us : List Token} {c : Condition} {u : Simple} → Asked xs c → Simply us u
+      → Instructed (Mark markIf ∷ xs ++ Mark markThen ∷ us) (ifThen c u)
+  alternative : {xs us ws : List Token} {c : Condition} {u w : Simple} → Asked xs c → Simply us u → Simply ws w
+      → Instructed (Mark markIf ∷ xs ++ Mark markThen ∷ us ++ Mark markElse ∷ ws) (ifElse c u w)
+  -- "`%IF .. %THEN %START`"
+  opening : {xs : List Token} {c : Condition} → Asked xs c
+      → Instructed (Mark markIf ∷ xs ++ Mark markThen ∷ Mark markStart ∷ []) (ifStart c)
 
 -- ---- statements
 
@@ -88,4 +96,7 @@ pub data Stated : List Token → Form → Type 0 where
   instructed : {ts us : List Token} {ls : List ℕ} {i : Instruction} → LabelList ts ls → Instructed us i
       → Stated (ts ++ us) (instruction ls i)
   alone : {ts : List Token} {ls : List ℕ} → LabelList ts ls → Stated ts (labels ls)
+  -- "`%FINISH`, and `%FINISH %ELSE %START`"
+  finishes : Stated (Mark markFinish ∷ []) finish
+  goes-on : Stated (Mark markFinish ∷ Mark markElse ∷ Mark markStart ∷ []) finishElse
   end : Stated (Mark markEnd ∷ []) ending

@@ -1,6 +1,6 @@
 -- From cells to tokens, document 01: "A run of keyword letters is cut from the left, always taking the longest of BEGIN
--- ENDOFPROGRAM INTEGER IF THEN ELSE. A name is a letter and the letters and digits after it, compared whole." Comments in
--- quotes are document 01's words.
+-- ENDOFPROGRAM INTEGER IF THEN ELSE", and of START and FINISH of 02, L1. "A name is a letter and the letters and digits after it,
+-- compared whole." Comments in quotes are document 01's words.
 use Prim.Native.Nat.{ℕ, zero, suc, _+_, _-_, _*_}
 use Prim.Native.String.{String}
 use mathlib.Core.Bool.{Bool, true, false}
@@ -41,6 +41,12 @@ markElse = 133
 abbrev pub markArrow : ℕ
 markArrow = 134
 
+abbrev pub markStart : ℕ
+markStart = 135
+
+abbrev pub markFinish : ℕ
+markFinish = 136
+
 abbrev pub markOpen : ℕ
 markOpen = 40
 
@@ -68,7 +74,9 @@ abbrev pub keywords : List Sign
 keywords =
     sign "endofprogram" (Mark markEnd)
     ∷ sign "integer" (Mark markInteger)
+    ∷ sign "finish" (Mark markFinish)
     ∷ sign "begin" (Mark markBegin)
+    ∷ sign "start" (Mark markStart)
     ∷ sign "then" (Mark markThen)
     ∷ sign "else" (Mark markElse)
     ∷ sign "if" (Mark markIf)

@@ -13,6 +13,10 @@ pub const MARK_ELSE: u32 = 133;
 
 pub const MARK_ARROW: u32 = 134;
 
+pub const MARK_START: u32 = 135;
+
+pub const MARK_FINISH: u32 = 136;
+
 pub const MARK_OPEN: u32 = 40;
 
 pub const MARK_CLOSE: u32 = 41;

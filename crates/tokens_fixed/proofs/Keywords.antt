@@ -11,14 +11,11 @@ use Rattle.text.specs.Pieces.{fixed}
 use Rattle.text.proofs.Fronts.{front-fixed}
 use Rattle.source.specs.declared.Token.{Token}
 use Rattle.source.specs.Memory.{tokenKind}
-use Rattle.source.specs.Tokens.{One, one, wrong, token, Sign, sign, keywords, firstOf, keywordAt}
+use Rattle.source.specs.Tokens.{Sign, sign, keywords, firstOf, keywordAt}
 use Rattle.tokens_fixed.specs.declared.One.{One as Answer}
 use Rattle.tokens_fixed.specs.declared.One.the-variants.{Token as TokenAt, Wrong}
 use Rattle.tokens_fixed.specs.Answers.{Is}
-
--- the first of some signs
-unfoldable pub keywordOf : List Sign → List ℕ → One
-keywordOf signs l = onFront (firstOf signs l) (λ t rest. one (token t) rest) (wrong 5)
+use Rattle.tokens_fixed.specs.Internal.{keywordOf}
 
 -- a fixed string takes its length
 pub place-behind : (string s : List ℕ) (at q : ℕ) → 0 < length string → found [] (drop q s) ≡ fixed string (drop at s) → at < q

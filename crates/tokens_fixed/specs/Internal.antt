@@ -1,14 +1,25 @@
 -- What the private functions compute.
 use Prim.Native.Nat.{ℕ}
+use mathlib.Core.List.{List}
 use lib.Dec.{eqb}
+use lib.ListN.{drop}
 use Rattle.base.specs.Choice.{pick}
+use Rattle.base.specs.Front.{onFront}
 use Rattle.word.specs.declared.Relation.the-variants.{Equal, Unequal, Less, AtMost, Greater, AtLeast}
 use Rattle.sheet.specs.declared.Operator.the-variants.{Plus, Minus, Times, Over, Power, Left, Right, And, Or, Unlike}
 use Rattle.source.specs.declared.Token.{Token}
 use Rattle.source.specs.declared.Token.the-variants.{Binary, Compare, Mark}
-use Rattle.source.specs.Tokens.{markArrow}
+use Rattle.source.specs.Tokens.{markArrow, Sign, keywords, firstOf, One, one, wrong, token}
 use Rattle.tokens_fixed.specs.declared.Pair.{Pair}
 use Rattle.tokens_fixed.specs.declared.Pair.the-variants.{Token as PairIs, Missing as NoPair}
+
+-- the keyword at the front, if it is one of these
+unfoldable pub keywordOf : List Sign → List ℕ → One
+keywordOf signs l = onFront (firstOf signs l) (λ t rest. one (token t) rest) (wrong 5)
+
+-- those behind ENDOFPROGRAM, INTEGER, FINISH and BEGIN
+abbrev pub laterKeywords : List Sign
+laterKeywords = drop 4 keywords
 
 -- a character twice
 unfoldable pub doubledOf : ℕ → Pair

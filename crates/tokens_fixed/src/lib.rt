@@ -1,12 +1,14 @@
-// Tokens that are fixed strings, document 01: keywords and signs. Comments in quotes are document 01's words.
+// Tokens that are fixed strings, document 01 and 02, L1: keywords and signs. Comments in quotes are document 01's words.
 use sheet::Operator;
 use source::Token;
 use source::marks::MARK_ARROW;
 use source::marks::MARK_BEGIN;
 use source::marks::MARK_ELSE;
 use source::marks::MARK_END;
+use source::marks::MARK_FINISH;
 use source::marks::MARK_IF;
 use source::marks::MARK_INTEGER;
+use source::marks::MARK_START;
 use source::marks::MARK_THEN;
 use text::read::Place;
 use text::read::fixed_at;
@@ -16,7 +18,7 @@ ghost use Prim.Native.Nat.{_<_, _+_};
 ghost use lib.ListN.{length, drop};
 ghost use Rattle.source.specs.Tokens.{keywordAt, signAt};
 ghost use Rattle.tokens_fixed.specs.Answers.{Is};
-ghost use Rattle.tokens_fixed.specs.Internal.{doubledOf, withEqualOf, pairOf, singleOf};
+ghost use Rattle.tokens_fixed.specs.Internal.{keywordOf, laterKeywords, doubledOf, withEqualOf, pairOf, singleOf};
 
 // A token and the place of the cell behind it; the place behind a name; or the number of the refusal.
 pub enum One {
@@ -31,18 +33,12 @@ enum Pair {
     Missing,
 }
 
-// "always taking the longest of BEGIN ENDOFPROGRAM INTEGER IF THEN ELSE". Keyword letters are small in cells.
-pub fn keyword_at(cells: &[u8], at: usize) -> One
-    ensures { λ r. ⌜ Is (now (cells .entry)) at r (keywordAt (drop at (now (cells .entry)))) ⌝ }
+// The keywords of four letters at most, and START: `laterKeywords` of specs/Internal.antt.
+fn later_keyword_at(cells: &[u8], at: usize) -> One
+    ensures { λ r. ⌜ Is (now (cells .entry)) at r (keywordOf laterKeywords (drop at (now (cells .entry)))) ⌝ }
 {
-    if let Place::Behind(q) = fixed_at(cells, at, b"endofprogram") {
-        return One::Token(Token::Mark(MARK_END), q);
-    }
-    if let Place::Behind(q) = fixed_at(cells, at, b"integer") {
-        return One::Token(Token::Mark(MARK_INTEGER), q);
-    }
-    if let Place::Behind(q) = fixed_at(cells, at, b"begin") {
-        return One::Token(Token::Mark(MARK_BEGIN), q);
+    if let Place::Behind(q) = fixed_at(cells, at, b"start") {
+        return One::Token(Token::Mark(MARK_START), q);
     }
     if let Place::Behind(q) = fixed_at(cells, at, b"then") {
         return One::Token(Token::Mark(MARK_THEN), q);
@@ -54,6 +50,26 @@ pub fn keyword_at(cells: &[u8], at: usize) -> One
         return One::Token(Token::Mark(MARK_IF), q);
     }
     One::Wrong(5)
+}
+
+// "always taking the longest of BEGIN ENDOFPROGRAM INTEGER IF THEN ELSE", and of START and FINISH. Keyword letters are small in
+// cells.
+pub fn keyword_at(cells: &[u8], at: usize) -> One
+    ensures { λ r. ⌜ Is (now (cells .entry)) at r (keywordAt (drop at (now (cells .entry)))) ⌝ }
+{
+    if let Place::Behind(q) = fixed_at(cells, at, b"endofprogram") {
+        return One::Token(Token::Mark(MARK_END), q);
+    }
+    if let Place::Behind(q) = fixed_at(cells, at, b"integer") {
+        return One::Token(Token::Mark(MARK_INTEGER), q);
+    }
+    if let Place::Behind(q) = fixed_at(cells, at, b"finish") {
+        return One::Token(Token::Mark(MARK_FINISH), q);
+    }
+    if let Place::Behind(q) = fixed_at(cells, at, b"begin") {
+        return One::Token(Token::Mark(MARK_BEGIN), q);
+    }
+    later_keyword_at(cells, at)
 }
 
 // A character twice: ** << >> !!

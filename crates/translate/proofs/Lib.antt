@@ -1,3 +1,3 @@
-pub mod Filling
-pub mod Within
-pub mod Sheets
+pub mod Tables
+pub mod Narrowness
+pub mod Translating

@@ -1,81 +1,234 @@
-// The translation of a sheet, document 01 ("Translation"): from its fields in two arrays to its orders in two arrays.
+// The translation of a sheet, document 01 ("Translation"): from its fields to its orders.
+use base::larger;
+use base::put_word;
 use order::MOST_ORDERS;
-use order::MOST_TEMPORARIES;
 use order::MOST_VARIABLES;
 use order::Order;
-use sheet_field::MOST_FIELDS;
-use translate_expression::Spot;
-use translate_expression::put_order;
-use translate_instruction::put_instruction;
-use translate_size::total_size;
+use order_number::order_in;
+use order_number::order_word;
+use translate_part::put_part;
+ghost use Prim.Native.Nat.{_+_, _-_, _≤_, _<_};
 ghost use mathlib.Core.Path.{_≡_};
-ghost use Rattle.order.specs.Order.{operand};
-ghost use Rattle.order.specs.Memory.{number};
-ghost use Rattle.translate_expression.specs.Internal.{Room};
-ghost use Rattle.translate.specs.Internal.{HoldsAll};
-ghost use Rattle.translate.specs.Answers.{OfSheet, translated, answerFor, filledFor};
+ghost use mathlib.Core.List.{map};
+ghost use lib.ListN.{length, getD, set, take};
+ghost use Rattle.order.specs.Limits.{mostVariables, mostOrders};
+ghost use Rattle.order.specs.Memory.{ordersIn};
+ghost use Rattle.sheet.specs.Temporaries.{storedTo, largestStored};
+ghost use Rattle.sheet.specs.Beginnings.{isLast, ofInstruction};
+ghost use Rattle.translate.specs.Internal.{targetOf, ledWord, noted, notedBy, table, Finishes};
+ghost use Rattle.translate.specs.Answers.{Translates};
 
-// T and N of a sheet's translation, or that a limit is passed.
+// T and N of a sheet's translation, or that there is no room for it.
 pub enum Translated {
     Whole(u32, u32),
     Over,
 }
 
-// All of them, and STOP.
-fn put_all(
-    kinds: &[u8],
-    values: &[u32],
-    n: usize,
-    word: u32,
-    firsts: &[u32],
-    numbers: &mut [u8],
-    operands: &mut [u32],
-)
-    requires { ⌜ Room n 0 word 0 ⌝ }
-    ensures numbered { λ _. ⌜ HoldsAll (now (kinds .entry)) (now (values .entry)) n word (now (firsts .entry))
-        number (now (numbers .entry)) (now (numbers .exit)) ⌝ }
-    ensures ordered { λ _. ⌜ HoldsAll (now (kinds .entry)) (now (values .entry)) n word (now (firsts .entry))
-        operand (now (operands .entry)) (now (operands .exit)) ⌝ }
-{
-    let mut spot = Spot { at: 0, i: 0 };
-    while spot.at < n {
-        let at = spot.at;
-        let i = spot.i;
-        spot = put_instruction(kinds, values, n, at, word, firsts, numbers, operands, i);
-    }
-    put_order(numbers, operands, spot.i, Order::Stop);
+// The number of the instruction that a jump leads to.
+enum Target {
+    To(u32),
+    Missing,
 }
 
-// Translates the sheet with V variables whose fields are the first n of two arrays. The sizes of its instructions come first:
-// a GOTO can lead forward, and a sheet over a limit leaves both arrays as they were.
-pub fn translate(
-    kinds: &[u8],
-    values: &[u32],
-    n: usize,
-    v: u32,
-    numbers: &mut [u8],
-    operands: &mut [u32],
-) -> Translated
-    ensures answered { λ r. ⌜ OfSheet (now (kinds .entry)) (now (values .entry)) n v (λ s. translated r ≡ answerFor s) ⌝ }
-    ensures numbered { λ _. ⌜ OfSheet (now (kinds .entry)) (now (values .entry)) n v
-        (λ s. now (numbers .exit) ≡ filledFor s number (now (numbers .entry))) ⌝ }
-    ensures ordered { λ _. ⌜ OfSheet (now (kinds .entry)) (now (values .entry)) n v
-        (λ s. now (operands .exit) ≡ filledFor s operand (now (operands .entry))) ⌝ }
+// Whether an instruction begins behind an order.
+fn is_last(o: Order, v: u32) -> bool
+    requires { ⌜ v ≤ mostVariables ⌝ }
+    ensures { λ r. ⌜ r ≡ isLast v o ⌝ }
 {
-    if MOST_FIELDS < n {
-        return Translated::Over;
+    match o {
+        Order::Word(_, _) => false,
+        Order::Number(_, _) => false,
+        Order::Store(w) => w < v + 2,
+        Order::Neg => false,
+        Order::Not => false,
+        Order::Jump(_) => true,
+        Order::Skip(_) => true,
+        Order::Branch(_, _) => true,
+        Order::Send => true,
+        Order::Stop => false,
     }
+}
+
+// Whether an order is an instruction's: SKIP and STOP are not.
+fn of_instruction(o: Order) -> bool
+    ensures { λ r. ⌜ r ≡ ofInstruction o ⌝ }
+{
+    match o {
+        Order::Word(_, _) => true,
+        Order::Number(_, _) => true,
+        Order::Store(_) => true,
+        Order::Neg => true,
+        Order::Not => true,
+        Order::Jump(_) => true,
+        Order::Skip(_) => false,
+        Order::Branch(_, _) => true,
+        Order::Send => true,
+        Order::Stop => false,
+    }
+}
+
+// Notes order i as the first of the next instruction, where it is.
+fn note(firsts: &mut [u32], n: usize, i: u32, here: bool, o: Order) -> usize
+    requires { ⌜ n < 4294967296 ⌝ }
+    ensures { λ r. ⌜ noted r (now (firsts .exit)) ≡ notedBy here o i (noted n (now (firsts .entry))) ⌝ }
+{
+    if here {
+        if of_instruction(o) {
+            put_word(firsts, n, i);
+            return n + 1;
+        }
+        return n;
+    }
+    n
+}
+
+// The first orders of the instructions, in the order of their numbers, and how many there are.
+fn note_firsts(orders: &[u64], v: u32, firsts: &mut [u32]) -> usize
+    requires { ⌜ (v ≤ mostVariables) × (length (now orders) ≤ mostOrders) ⌝ }
+    ensures { λ r. ⌜ noted r (now (firsts .exit)) ≡ table v (now (orders .entry)) (now (firsts .entry)) ⌝ }
+{
+    let mut i: usize = 0;
+    let mut n: usize = 0;
+    let mut here = true;
+    while i < orders.len() {
+        let o = order_in(orders[i]);
+        n = note(firsts, n, i as u32, here, o);
+        here = is_last(o, v);
+        i += 1;
+    }
+    n
+}
+
+// The number from 0 of what is number s from 1.
+fn from_zero(s: u32) -> usize
+    ensures { λ r. ⌜ r ≡ s - 1 ⌝ }
+{
+    if s == 0 {
+        return 0;
+    }
+    (s - 1) as usize
+}
+
+// The first order of instruction s, of n that are noted; `last` for one past them.
+fn first_of(firsts: &[u32], n: usize, last: u32, s: u32) -> u32
+    ensures { λ r. ⌜ r ≡ getD (take n (now (firsts .entry))) (s - 1) last ⌝ }
+{
+    let k = from_zero(s);
+    if k < n {
+        if k < firsts.len() {
+            return firsts[k];
+        }
+        return last;
+    }
+    last
+}
+
+fn target_of(o: Order) -> Target
+    ensures { λ r. ⌜ r ≡ targetOf o ⌝ }
+{
+    match o {
+        Order::Word(_, _) => Target::Missing,
+        Order::Number(_, _) => Target::Missing,
+        Order::Store(_) => Target::Missing,
+        Order::Neg => Target::Missing,
+        Order::Not => Target::Missing,
+        Order::Jump(s) => Target::To(s),
+        Order::Skip(_) => Target::Missing,
+        Order::Branch(_, _) => Target::Missing,
+        Order::Send => Target::Missing,
+        Order::Stop => Target::Missing,
+    }
+}
+
+// Gives order i, where it is a jump, the address of its instruction.
+fn lead(orders: &mut [u64], i: usize, firsts: &[u32], n: usize, last: u32)
+    requires { ⌜ i < length (now orders) ⌝ }
+    ensures { λ _. ⌜ now (orders .exit)
+        ≡ set (now (orders .entry)) i (ledWord (take n (now (firsts .entry))) last (getD (now (orders .entry)) i 0)) ⌝ }
+{
+    let Target::To(s) = target_of(order_in(orders[i])) else {
+        return;
+    };
+    orders[i] = order_word(Order::Jump(first_of(firsts, n, last, s)));
+}
+
+// Gives each jump the address of its instruction.
+fn lead_all(orders: &mut [u64], firsts: &[u32], n: usize, last: u32)
+    ensures { λ _. ⌜ now (orders .exit) ≡ map (ledWord (take n (now (firsts .entry))) last) (now (orders .entry)) ⌝ }
+{
+    let mut i = 0;
+    while i < orders.len() {
+        lead(orders, i, firsts, n, last);
+        i += 1;
+    }
+}
+
+// The temporary that an order stores to, from 1; 0 where there is none.
+fn stored_to(o: Order, v: u32) -> u32
+    requires { ⌜ v ≤ mostVariables ⌝ }
+    ensures { λ r. ⌜ r ≡ storedTo v o ⌝ }
+{
+    match o {
+        Order::Word(_, _) => 0,
+        Order::Number(_, _) => 0,
+        Order::Store(w) => {
+            if w < v + 2 {
+                return 0;
+            }
+            w - v - 1
+        }
+        Order::Neg => 0,
+        Order::Not => 0,
+        Order::Jump(_) => 0,
+        Order::Skip(_) => 0,
+        Order::Branch(_, _) => 0,
+        Order::Send => 0,
+        Order::Stop => 0,
+    }
+}
+
+// T: the largest of them.
+fn largest(orders: &[u64], v: u32) -> u32
+    requires { ⌜ v ≤ mostVariables ⌝ }
+    ensures { λ r. ⌜ r ≡ largestStored v (ordersIn (now (orders .entry))) ⌝ }
+{
+    let mut t: u32 = 0;
+    let mut i = 0;
+    while i < orders.len() {
+        t = larger(t, stored_to(order_in(orders[i]), v));
+        i += 1;
+    }
+    t
+}
+
+// Leads the jumps of orders that are put, STOP the last of them.
+fn finish(orders: &mut [u64], v: u32) -> Translated
+    requires { ⌜ (v ≤ mostVariables) × (1 ≤ length (now orders)) × (length (now orders) ≤ mostOrders) ⌝ }
+    ensures { λ r. ⌜ Finishes v (now (orders .entry)) r (now (orders .exit)) ⌝ }
+{
+    let mut firsts = [0u32; MOST_ORDERS as usize];
+    let n = note_firsts(orders, v, &mut firsts);
+    let count = orders.len() as u32;
+    lead_all(orders, &firsts, n, count - 1);
+    Translated::Whole(largest(orders, v), count)
+}
+
+// Translates the sheet of V variables whose fields are lent, into an array of MOST_ORDERS orders. Free is what that holds behind the
+// orders, and all that it holds where they have no room.
+pub fn translate(fields: &[u64], v: u32, out: &mut [u64]) -> Translated
+    ensures { λ r. ⌜ Translates (now (fields .entry)) v (now (out .entry)) r (now (out .exit)) ⌝ }
+{
     if MOST_VARIABLES < v {
         return Translated::Over;
     }
-    let mut firsts = [0u32; MOST_ORDERS as usize + 1];
-    let total = total_size(kinds, values, n, &mut firsts);
-    if MOST_TEMPORARIES < total.temporaries {
+    if out.len() != MOST_ORDERS as usize {
         return Translated::Over;
     }
-    if MOST_ORDERS <= total.orders {
+    let s = put_part(fields, 0, v + 2, out, 0);
+    let n = s.i;
+    if out.len() <= n {
         return Translated::Over;
     }
-    put_all(kinds, values, n, v + 2, &firsts, numbers, operands);
-    Translated::Whole(total.temporaries, total.orders + 1)
+    order_number::put_order(out, n, Order::Stop);
+    finish(&mut out[..n + 1], v)
 }

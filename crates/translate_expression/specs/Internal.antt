@@ -1,96 +1,179 @@
--- What the functions put, on the fields that are left at a place, whether these are an expression's or not.
-use Prim.Native.Nat.{ℕ, zero, suc, _+_, _*_, _≤_}
+-- What the private functions do.
+use Prim.Native.Nat.{ℕ, zero, suc, _+_, _≤_, _<_}
 use mathlib.Core.Path.{_≡_}
-use mathlib.Core.List.{List, [], _∷_}
-use lib.ListN.{set as put}
+use mathlib.Core.Bool.{Bool, true, false}
+use mathlib.Core.List.{List, [], _∷_, _++_, map}
+use lib.ListN.{length}
+use lib.Seq.{sets}
 use Rattle.order.specs.declared.Operation.{Operation}
-use Rattle.order.specs.declared.Operation.the-variants.{Load}
+use Rattle.order.specs.declared.Operation.the-variants.{Load, Cmp}
 use Rattle.order.specs.declared.Order.{Order}
-use Rattle.order.specs.declared.Order.the-variants.{Word, Store}
-use Rattle.order.specs.Order.{operand}
-use Rattle.order.specs.Memory.{number}
+use Rattle.order.specs.declared.Order.the-variants.{Word, Number, Store, Neg, Not}
 use Rattle.sheet.specs.declared.Field.{Field}
-use Rattle.sheet.specs.Translation.{orders}
-use Rattle.sheet_field.specs.Memory.{mostFields}
-use Rattle.translate_size.specs.declared.node.Node.{Node}
-use Rattle.translate_size.specs.declared.node.Node.the-variants.{Plain, Unary, Binary, Missing}
-use Rattle.translate_size.specs.declared.node.Right.{Right}
-use Rattle.translate_size.specs.declared.node.Right.the-variants.{Plain as PlainRight, WorkedOut}
-use Rattle.translate_size.specs.Internal.{left, behind, firstNode, firstRight, orderOn}
+use Rattle.sheet.specs.declared.Field.the-variants.{Else, Start, Finish, If, Send as Sent, Neg as Negated, Not as Inverted}
+use Rattle.sheet.specs.declared.Field.the-variants.{Binary as Between, Compare, Word as InWord, Constant as Itself, Set, Goto as Gone}
+use Rattle.sheet.specs.Sheet.{Expression, operand}
+use Rattle.sheet.specs.Fields.{expressionFields}
+use Rattle.sheet.specs.Orders.{operation, temporary, code, joined}
+use Rattle.sheet_field.specs.Memory.{fieldsAt}
+use Rattle.order.specs.Memory.{orderWord}
+use Rattle.translate_expression.specs.declared.Operand.{Operand}
+use Rattle.translate_expression.specs.declared.Operand.the-variants.{Word as OnWord, Constant as OnConstant}
+use Rattle.translate_expression.specs.declared.Node.{Node}
+use Rattle.translate_expression.specs.declared.Node.the-variants.{Plain, Unary, Binary, Missing}
+use Rattle.translate_expression.specs.declared.Right.{Right}
+use Rattle.translate_expression.specs.declared.Right.the-variants.{Plain as PlainRight, WorkedOut}
+use Rattle.translate_expression.specs.declared.Step.{Step}
+use Rattle.translate_expression.specs.declared.Step.the-variants.{Put, Right as RightStep, Missing as NoStep}
 use Rattle.translate_expression.specs.declared.Spot.{Spot}
 
--- the place behind the last order, the numbers and the operands
-pub data Placed : Type 0 where
-  placed : ℕ → List ℕ → List ℕ → Placed
+-- ---- nodes
 
--- the fields that are left, and what was put
-pub data Written : Type 0 where
-  written : List Field → Placed → Written
+abbrev pub behind : List Field → List Field
+behind [] = []
+behind (x ∷ l) = l
 
-abbrev pub putOrder : Order → Placed → Placed
-putOrder o (placed i ks vs) = placed (i + 1) (put ks i (number o)) (put vs i (operand o))
+abbrev pub nodeOf : Field → Node
+nodeOf Else = Missing
+nodeOf Start = Missing
+nodeOf Finish = Missing
+nodeOf If = Missing
+nodeOf Sent = Missing
+nodeOf Negated = Unary Neg
+nodeOf Inverted = Unary Not
+nodeOf (Between o) = Binary (operation o)
+nodeOf (Compare r) = Missing
+nodeOf (InWord w) = Plain (OnWord w)
+nodeOf (Itself n) = Plain (OnConstant n)
+nodeOf (Set w) = Missing
+nodeOf (Gone s) = Missing
 
-unfoldable pub putOrders : List Order → Placed → Placed
-putOrders [] p = p
-putOrders (o ∷ os) p = putOrders os (putOrder o p)
+abbrev pub firstNode : List Field → Node
+firstNode [] = Missing
+firstNode (x ∷ l) = nodeOf x
 
--- the place, a word and the orders so far leave room: a word's number has 32 bits, and no field has more than 8 orders
-pub record Room (n at word i : ℕ) : Type 0 where
-  pub inside : at ≤ n
-  pub few : n ≤ mostFields
-  pub words : word + n ≤ at + 4294967295
-  pub orders : i ≤ 8 * at
+abbrev pub isOperator : Node → Bool
+isOperator (Plain x) = false
+isOperator (Unary o) = true
+isOperator (Binary f) = true
+isOperator Missing = false
 
--- what is put from place i on by reading from a place: within n; no more than 8 orders a field, and k more; and as the mirror
--- has it
-pub record Putting (n at k : ℕ) (ks vs : List ℕ) (mirror : ℕ → List Field → Placed → Written) (i : ℕ) (r : Spot)
-    (p q : Placed) : Type 0 where
+abbrev pub rightOf : Node → Right
+rightOf (Plain x) = PlainRight x
+rightOf (Unary o) = WorkedOut
+rightOf (Binary f) = WorkedOut
+rightOf Missing = WorkedOut
+
+-- a plain operand stands before the end
+abbrev pub nodeInside : ℕ → ℕ → Node → Type 0
+nodeInside n at (Plain x) = at < n
+nodeInside n at (Unary o) = at < n
+nodeInside n at (Binary f) = at < n
+nodeInside n at Missing = Unit {0}
+
+abbrev pub rightInside : ℕ → ℕ → Right → Type 0
+rightInside n at (PlainRight x) = at < n
+rightInside n at WorkedOut = Unit {0}
+
+abbrev pub orderOn : Operation → Operand → Order
+orderOn f (OnWord w) = Word f w
+orderOn f (OnConstant n) = Number f n
+
+abbrev pub rightStep : Operation → ℕ → Right → Step
+rightStep f at (PlainRight x) = Put (orderOn f x) (at + 1)
+rightStep f at WorkedOut = RightStep f
+
+abbrev pub stepOf : Node → ℕ → Right → Step
+stepOf (Plain x) at q = NoStep
+stepOf (Unary o) at q = Put o at
+stepOf (Binary f) at q = rightStep f at q
+stepOf Missing at q = NoStep
+
+-- ---- orders put
+
+-- the orders os, put from place i on where there is room; else the array is full
+pub record Puts (os : List Order) (i : ℕ) (out : List ℕ) (r : ℕ) (after : List ℕ) : Type 0 where
+  pub place : i + length os ≤ length out → r ≡ i + length os
+  pub orders : i + length os ≤ length out → after ≡ sets out i (map orderWord os)
+  pub full : i ≤ length out → length out ≤ i + length os → r ≡ length out
+  pub kept : length after ≡ length out
+
+-- the fields l are left, and the orders os are put
+pub record Done (fs : List ℕ) (l : List Field) (os : List Order) (i : ℕ) (out : List ℕ) (r : Spot) (after : List ℕ) : Type 0 where
+  pub rest : fieldsAt (r .at) fs ≡ l
+  pub put : Puts os i out (r .i) after
+
+-- whatever expression stands at a place, its orders are put; `word` is that of the first temporary that is not in use
+pub record Putting (fs : List ℕ) (at word i : ℕ) (out : List ℕ) (r : Spot) (after : List ℕ) : Type 0 where
   pub on : at ≤ r .at
-  pub inside : r .at ≤ n
-  pub few : r .i + 8 * at ≤ i + 8 * r .at + k
-  pub whole : (f : ℕ) → n ≤ at + f → written (left n (r .at) ks vs) q ≡ mirror f (left n at ks vs) p
+  pub whole :
+      (v d : ℕ) (e : Expression) (l : List Field)
+      → word ≡ temporary v d
+      → fieldsAt at fs ≡ expressionFields e ++ l
+      → word + length (expressionFields e) ≤ 4294967295
+      → Done fs l (code v d e) i out r after
 
-abbrev pub withLast : Order → Written → Written
-withLast o (written l p) = written l (putOrder o p)
+abbrev pub closing : Operation → ℕ → ℕ → List Order
+closing f a b = Store b ∷ Word Load a ∷ Word f b ∷ []
 
--- an operation: the left operand, then the right one by what it is; one that is worked out goes to word b, the left to a
-abbrev pub putClosing : Operation → ℕ → ℕ → Placed → Placed
-putClosing f a b p = putOrder (Word f b) (putOrder (Word Load a) (putOrder (Store b) p))
+-- the same for a right operand that is worked out, with the orders around it
+pub record Righting (fs : List ℕ) (at : ℕ) (f : Operation) (word i : ℕ) (out : List ℕ) (r : Spot) (after : List ℕ) : Type 0 where
+  pub on : at ≤ r .at
+  pub whole :
+      (v d : ℕ) (e : Expression) (l : List Field)
+      → word ≡ temporary v d
+      → fieldsAt at fs ≡ expressionFields e ++ l
+      → word + 1 + length (expressionFields e) ≤ 4294967295
+      → Done fs l ((Store word ∷ code v (suc d) e) ++ closing f word (word + 1)) i out r after
 
-abbrev pub putBoth : Operation → ℕ → ℕ → Written → Written
-putBoth f a b (written l p) = written l (putClosing f a b p)
+-- the run of operators from a place on
+pub record Run (fs : List ℕ) (at r : ℕ) : Type 0 where
+  pub on : at ≤ r
+  pub inside : at < r → r ≤ length fs
+  pub operators : (k : ℕ) → at ≤ k → k < r → isOperator (firstNode (fieldsAt k fs)) ≡ true
+  pub stop : isOperator (firstNode (fieldsAt r fs)) ≡ false
 
-abbrev pub Inner : Type 0
-Inner = ℕ → List Field → Placed → Written
+abbrev pub Leaf : List ℕ → ℕ → ℕ → List ℕ → Spot → List ℕ → Type 0
+Leaf fs at i out r after =
+    (word : ℕ) → isOperator (firstNode (fieldsAt at fs)) ≡ false → Putting fs at word i out r after
 
-abbrev pub putRight : Inner → Operation → ℕ → List Field → Placed → Written
-putRight inner f word l p = putBoth f word (word + 1) (inner (word + 1) l (putOrder (Store word) p))
+-- one operator outwards: what held from behind the operator holds from it
+pub record Operating (fs : List ℕ) (j word : ℕ) (s : Spot) (m : List ℕ) (r : Spot) (after : List ℕ) : Type 0 where
+  pub on : s .at ≤ r .at
+  pub outwards :
+      isOperator (firstNode (fieldsAt j fs)) ≡ true
+      → (i : ℕ) (out : List ℕ)
+      → Putting fs (j + 1) word i out s m
+      → Putting fs j word i out r after
 
-abbrev pub putBy : Inner → Operation → ℕ → Right → List Field → Placed → Written
-putBy inner f word (PlainRight x) l p = written (behind l) (putOrder (orderOn f x) p)
-putBy inner f word WorkedOut l p = putRight inner f word l p
+abbrev pub Next : ℕ → ℕ → Type 0
+Next w r = w < 4294967295 → r ≡ w + 1
 
-abbrev pub putAfter : Inner → Operation → ℕ → Written → Written
-putAfter inner f word (written l p) = putBy inner f word (firstRight l) l p
+-- the same where the run may go on
+pub record Running (fs : List ℕ) (at j : ℕ) : Type 0 where
+  pub on : at ≤ j
+  pub inside : at < j → j ≤ length fs
+  pub operators : (k : ℕ) → at ≤ k → k < j → isOperator (firstNode (fieldsAt k fs)) ≡ true
 
-abbrev pub putOperands : Inner → Operation → ℕ → List Field → Placed → Written
-putOperands inner f word l p = putAfter inner f word (inner word l p)
+-- the operators from place j outwards: a loop from j₀ down
+pub record Outwards (fs : List ℕ) (at word : ℕ) (m₀ : List ℕ) (j₀ : ℕ) (s₀ : Spot) (m : List ℕ) (j : ℕ) (s : Spot) : Type 0 where
+  pub low : at ≤ j
+  pub high : j ≤ j₀
+  pub far : s₀ .at ≤ s .at
+  pub outwards : (i : ℕ) (out : List ℕ) → Putting fs j₀ word i out s₀ m₀ → Putting fs j word i out s m
 
-abbrev pub putNode : Inner → ℕ → Node → List Field → Placed → Written
-putNode inner word (Plain x) l p = written (behind l) (putOrder (orderOn Load x) p)
-putNode inner word (Unary o) l p = withLast o (inner word (behind l) p)
-putNode inner word (Binary f) l p = putOperands inner f word (behind l) p
-putNode inner word Missing l p = written l p
+-- the orders of a step, behind s
+pub record Stepping (fs : List ℕ) (step : Step) (word : ℕ) (s : Spot) (m : List ℕ) (r : Spot) (after : List ℕ) : Type 0 where
+  pub put : (o : Order) (a : ℕ) → step ≡ Put o a → (r .at ≡ a) × Puts (o ∷ []) (s .i) m (r .i) after
+  pub stay : step ≡ NoStep → r .at ≡ s .at
+  pub right : (f : Operation) → step ≡ RightStep f → Righting fs (s .at) f word (s .i) m r after
 
-unfoldable pub putExpression : ℕ → Inner
-putExpression zero word l p = written l p
-putExpression (suc f) word l p = putNode (putExpression f) word (firstNode l) l p
-
-abbrev pub expressionBy : ℕ → ℕ → List Field → Placed → Written
-expressionBy word f = putExpression f word
-
-abbrev pub operandsPutBy : Operation → ℕ → ℕ → List Field → Placed → Written
-operandsPutBy o word f = putOperands (putExpression f) o word
-
-abbrev pub rightPutBy : Operation → ℕ → ℕ → List Field → Placed → Written
-rightPutBy o word f = putRight (putExpression f) o word
+-- whatever two expressions stand at a place, the orders of their comparison are put
+pub record Comparing (fs : List ℕ) (at word i : ℕ) (out : List ℕ) (r : Spot) (after : List ℕ) : Type 0 where
+  pub on : at ≤ r .at
+  pub whole :
+      (v d : ℕ) (a b : Expression) (l : List Field)
+      → word ≡ temporary v d
+      → fieldsAt at fs ≡ expressionFields a ++ (expressionFields b ++ l)
+      → word + 1 + length (expressionFields a) + length (expressionFields b) ≤ 4294967295
+      → Done fs l (joined Cmp v d (operand b) (code v d a) (code v (suc d) b)) i out r after

@@ -1,5 +1,2 @@
-pub mod Lengths
-pub mod Measured
-pub mod Places
-pub mod Sizes
-pub mod Summing
+pub mod Counting
+pub mod Statements

@@ -1,24 +1,43 @@
--- What size_of answers, of fields that two arrays hold: their numbers ks, and the numbers vs that they carry.
-use Prim.Native.Nat.{ℕ, _+_, _-_, _≤_}
+-- What size_of answers, of an array that holds the fields of a statement's instruction and no other.
+use Prim.Native.Nat.{ℕ, _+_, _≤_, min, max}
 use mathlib.Core.Path.{_≡_}
-use mathlib.Core.List.{List, _∷_}
-use lib.ListN.{length}
-use Rattle.sheet.specs.Sheet.{Instruction}
-use Rattle.sheet.specs.Fields.{instructionFields, fieldsOfAll}
-use Rattle.sheet.specs.Translation.{orders, instructionTemporaries}
-use Rattle.sheet_field.specs.Memory.{fieldsFrom, mostFields}
+use mathlib.Core.List.{List, [], _∷_, _++_}
+use Rattle.sheet.specs.declared.Field.the-variants.{Else, Start, Finish, If}
+use Rattle.sheet.specs.Sheet.{Simple, Condition}
+use Rattle.sheet.specs.Fields.{simpleFields, conditionFields}
+use Rattle.sheet.specs.Orders.{simpleSize, simpleTemporaries}
+use Rattle.sheet.specs.Condition.{asking, conditionTemporaries}
+use Rattle.sheet_field.specs.Memory.{fieldsAt}
 use Rattle.translate_size.specs.declared.Size.{Size}
 
--- where it ends, its orders and its temporaries; it begins at a place
-pub record SizeOf (at : ℕ) (i : Instruction) (r : Size) : Type 0 where
-  pub behind : r .at ≡ at + length (instructionFields i)
-  pub orders-too : (v : ℕ) → r .orders ≡ orders v i
-  pub temporaries-too : r .temporaries ≡ instructionTemporaries i
+-- a number, or the largest u32 where that is smaller
+abbrev pub capped : ℕ → ℕ
+capped n = min n 4294967295
 
--- the size at a place of n fields is that of the first of the instructions whose fields are left there
-abbrev pub SizeAt : List ℕ → List ℕ → ℕ → ℕ → Size → Type 0
-SizeAt ks vs n at r =
-    n ≤ mostFields
-    → (i : Instruction) (is : List Instruction)
-    → fieldsFrom at (n - at) ks vs ≡ fieldsOfAll (i ∷ is)
-    → SizeOf at i r
+-- the answer for so many orders, temporaries and instructions
+pub record Sizes (orders temporaries instructions : ℕ) (r : Size) : Type 0 where
+  pub its-orders : r .orders ≡ capped orders
+  pub its-temporaries : r .temporaries ≡ capped temporaries
+  pub its-instructions : r .instructions ≡ instructions
+
+-- whatever instruction's fields they are, with V variables: one that is no IF, an IF with one instruction or with two, or one up to
+-- its START
+pub record SizeOf (ws : List ℕ) (r : Size) : Type 0 where
+  pub few : r .instructions ≤ 3
+  pub of-simple : (v : ℕ) (u : Simple) → fieldsAt 0 ws ≡ simpleFields u → Sizes (simpleSize v u) (simpleTemporaries u) 1 r
+  pub of-then :
+      (v : ℕ) (c : Condition) (u : Simple)
+      → fieldsAt 0 ws ≡ If ∷ (conditionFields c ++ (Start ∷ (simpleFields u ++ (Finish ∷ []))))
+      → Sizes (asking v c + simpleSize v u) (max (conditionTemporaries c) (simpleTemporaries u)) 2 r
+  pub of-else :
+      (v : ℕ) (c : Condition) (u w : Simple)
+      → fieldsAt 0 ws ≡ If ∷ (conditionFields c ++ (Start ∷ (simpleFields u ++ (Else ∷ (simpleFields w ++ (Finish ∷ []))))))
+      → Sizes
+      (asking v c + simpleSize v u + 1 + simpleSize v w)
+      (max (conditionTemporaries c) (max (simpleTemporaries u) (simpleTemporaries w)))
+      3
+      r
+  pub of-start :
+      (v : ℕ) (c : Condition)
+      → fieldsAt 0 ws ≡ If ∷ (conditionFields c ++ (Start ∷ []))
+      → Sizes (asking v c) (conditionTemporaries c) 1 r

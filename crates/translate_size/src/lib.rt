@@ -1,49 +1,74 @@
-// The sizes of a translation's parts, document 01 ("Translation"), before any of it is written.
-pub mod node;
+// How many orders and temporaries a statement's instruction has, document 01 ("Translation"), before any order is put. The fields of an
+// expression are gone through as in crate translate_expression: a loop along the left, and recursion only into right operands
+// that are worked out.
+use base::larger;
+use order::Operation;
+use sheet_field::field_at;
+use sheet_field::kind_of;
+use translate_expression::Right;
+use translate_expression::Step;
+use translate_expression::leaf_at;
+use translate_expression::right_at;
+use translate_expression::right_step;
+use translate_expression::step_at;
+ghost use mathlib.Core.Path.{_≡_};
+ghost use Prim.Native.Nat.{_+_};
+ghost use lib.ListN.{length, getD};
+ghost use Rattle.sheet_field.specs.Memory.{kind, fieldIn};
+ghost use Rattle.translate_size.specs.Answers.{capped, SizeOf};
+ghost use Rattle.translate_size.specs.Internal.{Past, Leaf, Measuring, Stepping, Asking, Simply, Ifs};
 
-use crate::node::Node;
-use crate::node::Opening;
-use crate::node::Right;
-use crate::node::else_at;
-use crate::node::node_at;
-use crate::node::opening_at;
-use crate::node::past;
-use crate::node::right_at;
-use sheet_field::MOST_FIELDS;
-ghost use Prim.Native.Nat.{_≤_};
-ghost use Rattle.sheet_field.specs.Memory.{mostFields};
-ghost use Rattle.translate_size.specs.Answers.{SizeAt};
-ghost use Rattle.translate_size.specs.Internal.{Inside, Sizing, Moves, sizeExpression, operandsBy, sizeSimple, sizeIf};
-ghost use Rattle.translate_size.specs.Internal.{sizeInstruction, Totals};
-
-// The place behind an instruction or a part of one, the number of its orders, and of the temporaries that it uses.
-pub struct Size {
-    pub at: usize,
-    pub orders: u32,
-    pub temporaries: u32,
+// The place behind what was counted, its orders, and the temporaries that it uses.
+struct Counted {
+    at: usize,
+    orders: u32,
+    temporaries: u32,
 }
 
-// An expression in prefix order.
-fn expression_size(kinds: &[u8], values: &[u32], n: usize, at: usize) -> Size
-    requires { ⌜ Inside n at ⌝ }
-    ensures { λ r. ⌜ Sizing n at 0 (now (kinds .entry)) (now (values .entry)) sizeExpression r ⌝ }
+// The orders of a statement, the temporaries that it uses, and the instructions that it has in a sheet.
+pub struct Size {
+    pub orders: u32,
+    pub temporaries: u32,
+    pub instructions: u32,
+}
+
+// The sum, or the largest number of the type where that is more.
+fn sum(a: u32, b: u32) -> u32
+    ensures { λ r. ⌜ r ≡ capped (a + b) ⌝ }
 {
-    match node_at(kinds, values, n, at) {
-        Node::Plain(_) => Size {
+    if 4294967295 - a < b {
+        return 4294967295;
+    }
+    a + b
+}
+
+// The place behind, where the array has not ended.
+fn past(fields: &[u64], at: usize) -> usize
+    ensures { λ r. ⌜ Past (length (now (fields .entry))) at r ⌝ }
+{
+    if at < fields.len() {
+        return at + 1;
+    }
+    at
+}
+
+fn kind_at(fields: &[u64], at: usize) -> u8
+    ensures { λ r. ⌜ r ≡ kind (fieldIn (getD (now (fields .entry)) at 0)) ⌝ }
+{
+    kind_of(field_at(fields, at))
+}
+
+// The leaf at the end of a run of operators.
+fn leaf_size(fields: &[u64], at: usize) -> Counted
+    ensures { λ r. ⌜ Leaf (now (fields .entry)) at r ⌝ }
+{
+    match right_at(fields, at) {
+        Right::Plain(_) => Counted {
             at: at + 1,
             orders: 1,
             temporaries: 0,
         },
-        Node::Unary(_) => {
-            let inner = expression_size(kinds, values, n, at + 1);
-            Size {
-                at: inner.at,
-                orders: inner.orders + 1,
-                temporaries: inner.temporaries,
-            }
-        }
-        Node::Binary(_) => operands_size(kinds, values, n, at + 1),
-        Node::Missing => Size {
+        Right::WorkedOut => Counted {
             at,
             orders: 0,
             temporaries: 0,
@@ -51,145 +76,116 @@ fn expression_size(kinds: &[u8], values: &[u32], n: usize, at: usize) -> Size
     }
 }
 
-// The two operands of an operation, with its orders: one on a plain right operand; otherwise STR, STR, LOAD and its own.
-fn operands_size(kinds: &[u8], values: &[u32], n: usize, at: usize) -> Size
-    requires { ⌜ Inside n at ⌝ }
-    ensures { λ r. ⌜ Sizing n at 4 (now (kinds .entry)) (now (values .entry)) operandsBy r ⌝ }
+fn expression_size(fields: &[u64], at: usize) -> Counted
+    ensures { λ r. ⌜ Measuring (now (fields .entry)) at r ⌝ }
 {
-    let first = expression_size(kinds, values, n, at);
-    match right_at(kinds, values, n, first.at) {
-        Right::Plain(_) => Size {
-            at: first.at + 1,
-            orders: first.orders + 1,
-            temporaries: first.temporaries,
+    let mut j = leaf_at(fields, at);
+    let mut s = leaf_size(fields, j);
+    while at < j {
+        j -= 1;
+        let step = step_at(fields, j, s.at);
+        s = step_size(fields, step, s);
+    }
+    s
+}
+
+// A step: one order; or those of a right operand, and STR, STR, LOAD and the operation's own.
+fn step_size(fields: &[u64], step: Step, s: Counted) -> Counted
+    ensures { λ r. ⌜ Stepping (now (fields .entry)) step s r ⌝ }
+{
+    match step {
+        Step::Put(_, at) => Counted {
+            at,
+            orders: sum(s.orders, 1),
+            temporaries: s.temporaries,
         },
-        Right::WorkedOut => {
-            let second = expression_size(kinds, values, n, first.at);
-            Size {
+        Step::Right(_) => {
+            let second = expression_size(fields, s.at);
+            Counted {
                 at: second.at,
-                orders: first.orders + second.orders + 4,
-                temporaries: base::larger(
-                    first.temporaries,
-                    base::larger(2, second.temporaries + 1),
-                ),
+                orders: sum(sum(s.orders, second.orders), 4),
+                temporaries: larger(s.temporaries, larger(2, sum(second.temporaries, 1))),
             }
         }
+        Step::Missing => s,
     }
 }
 
-// An instruction that can be part of an IF.
-pub fn simple_size(kinds: &[u8], values: &[u32], n: usize, at: usize) -> Size
-    requires { ⌜ Inside n at ⌝ }
-    ensures sized { λ r. ⌜ Sizing n at 0 (now (kinds .entry)) (now (values .entry)) sizeSimple r ⌝ }
-    ensures moved { λ r. ⌜ Moves n at (r .at) ⌝ }
+// What an IF asks: the comparison whose relation stands at a place, and the branch.
+fn condition_size(fields: &[u64], at: usize) -> Counted
+    ensures { λ r. ⌜ Asking (now (fields .entry)) at r ⌝ }
 {
-    match opening_at(kinds, values, n, at) {
-        Opening::Last(_) => {
-            let inner = expression_size(kinds, values, n, at + 1);
-            Size {
-                at: inner.at,
-                orders: inner.orders + 1,
-                temporaries: inner.temporaries,
-            }
-        }
-        Opening::Goto(_) => Size {
-            at: at + 1,
+    let first = expression_size(fields, past(fields, at));
+    let step = right_step(fields, Operation::Cmp, first.at);
+    let both = step_size(fields, step, first);
+    Counted {
+        at: both.at,
+        orders: sum(both.orders, 1),
+        temporaries: both.temporaries,
+    }
+}
+
+// An instruction that is no IF.
+fn simple_size(fields: &[u64], at: usize) -> Counted
+    ensures { λ r. ⌜ Simply (now (fields .entry)) at r ⌝ }
+{
+    if kind_at(fields, at) == 26 {
+        return Counted {
+            at: past(fields, at),
             orders: 1,
             temporaries: 0,
-        },
-        Opening::If(_) => Size {
-            at: at + 1,
-            orders: 0,
-            temporaries: 0,
-        },
-        Opening::Missing => Size {
-            at: past(n, at),
-            orders: 0,
-            temporaries: 0,
-        },
+        };
+    }
+    let e = expression_size(fields, past(fields, at));
+    Counted {
+        at: e.at,
+        orders: sum(e.orders, 1),
+        temporaries: e.temporaries,
     }
 }
 
-// What stands behind IF: the comparison, the branch, THEN and its instruction; where there is ELSE, a JMP and the other one.
-fn if_size(kinds: &[u8], values: &[u32], n: usize, at: usize) -> Size
-    requires { ⌜ Inside n at ⌝ }
-    ensures { λ r. ⌜ Sizing n at 6 (now (kinds .entry)) (now (values .entry)) sizeIf r ⌝ }
+// What stands behind IF: what it asks, START, and where there is more, one instruction, or two and the SKIP between them.
+fn if_size(fields: &[u64]) -> Size
+    ensures { λ r. ⌜ Ifs (now (fields .entry)) r ⌝ }
 {
-    let test = operands_size(kinds, values, n, at);
-    let first = simple_size(kinds, values, n, past(n, test.at));
-    let orders = test.orders + 1 + first.orders;
-    let temporaries = base::larger(test.temporaries, first.temporaries);
-    if else_at(kinds, values, n, first.at) {
-        let second = simple_size(kinds, values, n, past(n, first.at));
+    let c = condition_size(fields, 1);
+    let p = past(fields, c.at);
+    if fields.len() <= p {
         return Size {
-            at: second.at,
-            orders: orders + 1 + second.orders,
-            temporaries: base::larger(temporaries, second.temporaries),
+            orders: c.orders,
+            temporaries: c.temporaries,
+            instructions: 1,
+        };
+    }
+    let u = simple_size(fields, p);
+    let orders = sum(c.orders, u.orders);
+    let temporaries = larger(c.temporaries, u.temporaries);
+    if kind_at(fields, u.at) == 0 {
+        let w = simple_size(fields, past(fields, u.at));
+        return Size {
+            orders: sum(sum(orders, w.orders), 1),
+            temporaries: larger(temporaries, w.temporaries),
+            instructions: 3,
         };
     }
     Size {
-        at: first.at,
         orders,
         temporaries,
+        instructions: 2,
     }
 }
 
-fn instruction_size(kinds: &[u8], values: &[u32], n: usize, at: usize) -> Size
-    requires { ⌜ Inside n at ⌝ }
-    ensures sized { λ r. ⌜ Sizing n at 0 (now (kinds .entry)) (now (values .entry)) sizeInstruction r ⌝ }
-    ensures moved { λ r. ⌜ Moves n at (r .at) ⌝ }
+// The size of the instruction whose fields are lent.
+pub fn size_of(fields: &[u64]) -> Size
+    ensures { λ r. ⌜ SizeOf (now (fields .entry)) r ⌝ }
 {
-    match opening_at(kinds, values, n, at) {
-        Opening::If(_) => if_size(kinds, values, n, at + 1),
-        Opening::Last(_) => simple_size(kinds, values, n, at),
-        Opening::Goto(_) => simple_size(kinds, values, n, at),
-        Opening::Missing => simple_size(kinds, values, n, at),
+    if kind_at(fields, 0) == 3 {
+        return if_size(fields);
     }
-}
-
-// All of them, and the first order of each and of the end, by the numbers of the instructions, which count from 1.
-pub fn total_size(kinds: &[u8], values: &[u32], n: usize, firsts: &mut [u32]) -> Size
-    requires { ⌜ n ≤ mostFields ⌝ }
-    ensures { λ r. ⌜ Totals (now (kinds .entry)) (now (values .entry)) n (now (firsts .entry)) (now (firsts .exit)) r ⌝ }
-{
-    let mut total = Size {
-        at: 0,
-        orders: 0,
-        temporaries: 0,
-    };
-    let mut k: usize = 1;
-    while total.at < n {
-        base::put_word(firsts, k, total.orders);
-        let one = instruction_size(kinds, values, n, total.at);
-        total = Size {
-            at: one.at,
-            orders: total.orders + one.orders,
-            temporaries: base::larger(total.temporaries, one.temporaries),
-        };
-        k += 1;
+    let u = simple_size(fields, 0);
+    Size {
+        orders: u.orders,
+        temporaries: u.temporaries,
+        instructions: 1,
     }
-    let end = total.orders;
-    base::put_word(firsts, k, end);
-    total
-}
-
-// The size of the instruction that begins at a place of n fields.
-pub fn size_of(kinds: &[u8], values: &[u32], n: usize, at: usize) -> Size
-    ensures { λ r. ⌜ SizeAt (now (kinds .entry)) (now (values .entry)) n at r ⌝ }
-{
-    if MOST_FIELDS < n {
-        return Size {
-            at,
-            orders: 0,
-            temporaries: 0,
-        };
-    }
-    if n < at {
-        return Size {
-            at,
-            orders: 0,
-            temporaries: 0,
-        };
-    }
-    instruction_size(kinds, values, n, at)
 }

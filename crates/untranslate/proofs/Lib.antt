@@ -1,11 +1,2 @@
-pub mod Loops
-pub mod Numbers
-pub mod Agreement
-pub mod Fields
-pub mod Wholes
-pub mod Simples
-pub mod Instructions
+pub mod Again
 pub mod Sheets
-pub mod Untranslating
-pub mod Temporaries
-pub mod ExpressionAgrees

@@ -1,25 +1,26 @@
--- What each case of the answer stands for. Comments in quotes are document 01's words.
-use Prim.Native.Nat.{ℕ, _-_}
-use mathlib.Core.List.{List}
-use lib.ListN.{length}
-use Rattle.sheet.specs.declared.Field.{Field}
-use Rattle.sheet.specs.Sheet.{instructions}
+-- What reading a sheet back from orders in memory gives.
+use Prim.Native.Nat.{ℕ}
+use mathlib.Core.Path.{_≡_}
+use mathlib.Core.List.{List, map}
+use lib.ListN.{length, take}
+use Rattle.order.specs.declared.Order.{Order}
+use Rattle.order.specs.Good.{Good}
+use Rattle.order.specs.Memory.{orderWord}
+use Rattle.sheet.specs.Sheet.{count, instructions}
 use Rattle.sheet.specs.Fields.{sheetFields}
-use Rattle.sheet.specs.ReadBack.{Given, given, none}
-use Rattle.sheet_field.specs.Memory.{fieldsFrom}
+use Rattle.sheet.specs.ReadBack.{Given, given, none, untranslate}
+use Rattle.sheet_field.specs.Memory.{fieldsAt, mostFields}
 use Rattle.untranslate.specs.declared.Untranslated.{Untranslated}
-use Rattle.untranslate.specs.declared.Untranslated.the-variants.{Sheet as Read, Missing}
+use Rattle.untranslate.specs.declared.Untranslated.the-variants.{Sheet, Missing}
 
--- the number of a sheet's instructions and its fields, or document 01's number of the refusal and its place
-pub data Offer : Type 0 where
-  fieldsOfSheet : ℕ → List Field → Offer
-  refusal : ℕ → ℕ → Offer
+-- the array holds the fields of the sheet that is given, if one is
+abbrev pub Answers : Given → Untranslated → List ℕ → Type 0
+Answers (given s) r fields =
+    (r ≡ Sheet (count (instructions s)) (length (sheetFields s)))
+    × (fieldsAt 0 (take (length (sheetFields s)) fields) ≡ sheetFields s)
+Answers none r fields = r ≡ Missing
 
--- the fields stand in the two arrays from a place to the end; 31 "good object, but no sheet translates to it"
-abbrev pub readOff : Untranslated → List ℕ → List ℕ → Offer
-readOff (Read count from) ks vs = fieldsOfSheet count (fieldsFrom from (length ks - from) ks vs)
-readOff Missing ks vs = refusal 31 0
-
-abbrev pub offered : Given → Offer
-offered (given s) = fieldsOfSheet (length (instructions s)) (sheetFields s)
-offered none = refusal 31 0
+-- whatever good object the orders are of
+pub record Untranslates (ws : List ℕ) (v t : ℕ) (fs : List ℕ) (r : Untranslated) (after : List ℕ) : Type 0 where
+  pub kept : length after ≡ length fs
+  pub of : (os : List Order) → Good v t os → ws ≡ map orderWord os → length fs ≡ mostFields → Answers (untranslate v t os) r after

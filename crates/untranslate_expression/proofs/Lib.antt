@@ -1,1 +1,4 @@
-pub mod Cycle
+pub mod Places
+pub mod Links
+pub mod Counting
+pub mod Along

@@ -1,274 +1,333 @@
-// An expression is read from its last order to its first, and its fields are written from the last to the first: the right
-// operand, the left one, the operator. It stands in the orders from `start` to before `end`; `first` is the word of the
-// first temporary and `word` that of the first temporary not in use.
+// From the orders of expressions and comparisons, document 01 ("Translation"), back to their fields: right where the orders are a
+// translation. An expression's orders are those of its leftmost operand, then a link for each operator from there outwards. Its fields
+// are the operators from the outermost inwards, that operand, and the right operands from the innermost outwards: so the links are
+// counted first, and each operator has its place.
 use order::Operation;
 use order::Order;
-use untranslate_look::node::Node;
-use untranslate_look::node::Right;
-use untranslate_look::node::is_leaf;
-use untranslate_look::node::node_of;
-use untranslate_look::orders::Place;
-use untranslate_look::orders::order_at;
-use untranslate_look::orders::taken;
-use untranslate_look::output::Back;
-use untranslate_look::output::put;
-use untranslate_look::output::put_before;
+use order_number::order_in;
+use sheet::Field;
+use sheet::Operator;
+use sheet_field::field_word;
 ghost use mathlib.Core.Path.{_≡_};
-ghost use Rattle.untranslate_look.specs.Internal.{orderAt, view, told};
-ghost use Rattle.untranslate_expression.specs.Internal.{Enough, Whole, keptRead, rightRead, operandsRead};
-ghost use Rattle.untranslate_expression.specs.Internal.{expressionRead, wholeRead, comparisonRead};
+ghost use Prim.Native.Nat.{_<_};
+ghost use lib.ListN.{length};
+ghost use Rattle.untranslate_expression.specs.Internal.{ordersAt, firstOrder, useOf, leafOf, loadsLeaf, takes, operatorOf, joinedBy, linkOf};
+ghost use Rattle.untranslate_expression.specs.Internal.{Past, PastWord, PastLink, Counts, NextWord, LeafPlace, Put, Leaf, Reading, Linking};
 
-// A right operand that was worked out, and kept in the next temporary, whose word is w: before it the left operand was
-// kept, and behind it that one is loaded again.
-fn read_kept(
-    numbers: &[u8],
-    operands: &[u32],
-    start: u32,
-    end: u32,
+// What an operation does with its operand.
+pub enum Use {
+    Loads,
+    Joins(Operator),
+    Compares,
+}
+
+// A link: an operator without a right operand; one with a plain right operand; one whose right operand is worked out now; or no link. CMP
+// is an operator with the field ELSE, which the caller replaces.
+pub enum Link {
+    Unary(Field),
+    Plain(Field, Field),
+    Kept,
+    End,
+}
+
+// A place among the orders, and one among the fields.
+pub struct Spot {
+    pub at: usize,
+    pub n: usize,
+}
+
+fn use_of(f: Operation) -> Use
+    ensures { λ r. ⌜ r ≡ useOf f ⌝ }
+{
+    match f {
+        Operation::Load => Use::Loads,
+        Operation::Add => Use::Joins(Operator::Plus),
+        Operation::Sub => Use::Joins(Operator::Minus),
+        Operation::Mlt => Use::Joins(Operator::Times),
+        Operation::Div => Use::Joins(Operator::Over),
+        Operation::Exp => Use::Joins(Operator::Power),
+        Operation::Shl => Use::Joins(Operator::Left),
+        Operation::Shr => Use::Joins(Operator::Right),
+        Operation::And => Use::Joins(Operator::And),
+        Operation::Or => Use::Joins(Operator::Or),
+        Operation::Xor => Use::Joins(Operator::Unlike),
+        Operation::Cmp => Use::Compares,
+    }
+}
+
+// The order at a place; STOP where the array has ended.
+pub fn order_at(orders: &[u64], at: usize) -> Order
+    ensures { λ r. ⌜ r ≡ firstOrder (ordersAt at (now (orders .entry))) ⌝ }
+{
+    if at < orders.len() {
+        return order_in(orders[at]);
+    }
+    Order::Stop
+}
+
+// The place behind, where the array has not ended.
+pub fn past(orders: &[u64], at: usize) -> usize
+    ensures { λ r. ⌜ Past (now (orders .entry)) at r ⌝ }
+{
+    if at < orders.len() {
+        return at + 1;
+    }
+    at
+}
+
+// The field of the operand of an order that has one.
+fn leaf_of(o: Order) -> Field
+    ensures { λ r. ⌜ r ≡ leafOf o ⌝ }
+{
+    match o {
+        Order::Word(_, w) => Field::Word(w),
+        Order::Number(_, n) => Field::Constant(n),
+        Order::Store(_) => Field::Else,
+        Order::Neg => Field::Else,
+        Order::Not => Field::Else,
+        Order::Jump(_) => Field::Else,
+        Order::Skip(_) => Field::Else,
+        Order::Branch(_, _) => Field::Else,
+        Order::Send => Field::Else,
+        Order::Stop => Field::Else,
+    }
+}
+
+// Whether an order's operand is a variable or a constant; `first` is the word of the first temporary.
+fn loads_leaf(o: Order, first: u32) -> bool
+    ensures { λ r. ⌜ r ≡ loadsLeaf first o ⌝ }
+{
+    match o {
+        Order::Word(_, w) => w < first,
+        Order::Number(_, _) => true,
+        Order::Store(_) => false,
+        Order::Neg => false,
+        Order::Not => false,
+        Order::Jump(_) => false,
+        Order::Skip(_) => false,
+        Order::Branch(_, _) => false,
+        Order::Send => false,
+        Order::Stop => false,
+    }
+}
+
+// Whether an order's operand is a word.
+fn takes_word(o: Order, word: u32) -> bool
+    ensures { λ r. ⌜ r ≡ takes word o ⌝ }
+{
+    match o {
+        Order::Word(_, w) => w == word,
+        Order::Number(_, _) => false,
+        Order::Store(_) => false,
+        Order::Neg => false,
+        Order::Not => false,
+        Order::Jump(_) => false,
+        Order::Skip(_) => false,
+        Order::Branch(_, _) => false,
+        Order::Send => false,
+        Order::Stop => false,
+    }
+}
+
+// An operation on a plain operand as a link.
+fn joined_by(f: Operation, x: Field) -> Link
+    ensures { λ r. ⌜ r ≡ joinedBy x (useOf f) ⌝ }
+{
+    match use_of(f) {
+        Use::Loads => Link::End,
+        Use::Joins(o) => Link::Plain(Field::Binary(o), x),
+        Use::Compares => Link::Plain(Field::Else, x),
+    }
+}
+
+// The link at a place; `word` is that of the first temporary that is not in use. STR of it keeps the left operand exactly where the
+// order behind loads a variable or a constant.
+fn link_at(orders: &[u64], at: usize, first: u32, word: u32) -> Link
+    requires { ⌜ at < length (now orders) ⌝ }
+    ensures { λ r. ⌜ r ≡ linkOf first word (ordersAt at (now (orders .entry))) ⌝ }
+{
+    match order_at(orders, at) {
+        Order::Word(f, w) => joined_by(f, Field::Word(w)),
+        Order::Number(f, n) => joined_by(f, Field::Constant(n)),
+        Order::Store(w) => {
+            if w != word {
+                return Link::End;
+            }
+            if loads_leaf(order_at(orders, at + 1), first) {
+                return Link::Kept;
+            }
+            Link::End
+        }
+        Order::Neg => Link::Unary(Field::Neg),
+        Order::Not => Link::Unary(Field::Not),
+        Order::Jump(_) => Link::End,
+        Order::Skip(_) => Link::End,
+        Order::Branch(_, _) => Link::End,
+        Order::Send => Link::End,
+        Order::Stop => Link::End,
+    }
+}
+
+// The operator of an order on a temporary.
+fn operator_of(o: Order) -> Field
+    ensures { λ r. ⌜ r ≡ operatorOf o ⌝ }
+{
+    match o {
+        Order::Word(f, _) => match use_of(f) {
+            Use::Loads => Field::Else,
+            Use::Joins(o) => Field::Binary(o),
+            Use::Compares => Field::Else,
+        },
+        Order::Number(_, _) => Field::Else,
+        Order::Store(_) => Field::Else,
+        Order::Neg => Field::Else,
+        Order::Not => Field::Else,
+        Order::Jump(_) => Field::Else,
+        Order::Skip(_) => Field::Else,
+        Order::Branch(_, _) => Field::Else,
+        Order::Send => Field::Else,
+        Order::Stop => Field::Else,
+    }
+}
+
+// The place behind the first order on a word.
+fn past_word(orders: &[u64], at: usize, word: u32) -> usize
+    ensures { λ r. ⌜ PastWord (now (orders .entry)) at word r ⌝ }
+{
+    let mut j = at;
+    while j < orders.len() {
+        if takes_word(order_in(orders[j]), word) {
+            return j + 1;
+        }
+        j += 1;
+    }
+    j
+}
+
+// The place behind the link at a place, or that place where there is none. A right operand that is worked out never names the
+// temporary that keeps the left one: its orders end with the LOAD of that and the order behind.
+fn past_link(orders: &[u64], at: usize, first: u32, word: u32) -> usize
+    ensures { λ r. ⌜ PastLink (now (orders .entry)) at first word r ⌝ }
+{
+    if orders.len() <= at {
+        return at;
+    }
+    match link_at(orders, at, first, word) {
+        Link::Unary(_) => at + 1,
+        Link::Plain(_, _) => at + 1,
+        Link::Kept => past(orders, past_word(orders, at + 1, word)),
+        Link::End => at,
+    }
+}
+
+// How many links there are from a place on.
+fn count_links(orders: &[u64], at: usize, first: u32, word: u32) -> usize
+    ensures { λ r. ⌜ Counts (now (orders .entry)) at first word r ⌝ }
+{
+    let mut j = at;
+    let mut n = 0;
+    loop {
+        let k = past_link(orders, j, first, word);
+        if k <= j {
+            return n;
+        }
+        j = k;
+        n += 1;
+    }
+}
+
+fn next(w: u32) -> u32
+    ensures { λ r. ⌜ NextWord w r ⌝ }
+{
+    if w < 4294967295 {
+        return w + 1;
+    }
+    w
+}
+
+// Puts a field where there is room.
+pub fn put_field(fields: &mut [u64], n: usize, f: Field) -> usize
+    ensures { λ r. ⌜ Put f n (now (fields .entry)) r (now (fields .exit)) ⌝ }
+{
+    if n < fields.len() {
+        fields[n] = field_word(f);
+        return n + 1;
+    }
+    n
+}
+
+// The place behind k operators that begin at p, where there is room for a field more.
+fn leaf_place(room: usize, p: usize, k: usize) -> usize
+    ensures { λ r. ⌜ LeafPlace room p k r ⌝ }
+{
+    if room <= p {
+        return p;
+    }
+    if room - p <= k {
+        return p;
+    }
+    p + k
+}
+
+fn read_leaf(orders: &[u64], at: usize, fields: &mut [u64], q: usize) -> Spot
+    ensures { λ r. ⌜ Leaf (now (orders .entry)) at (now (fields .entry)) q r (now (fields .exit)) ⌝ }
+{
+    let n = put_field(fields, q, leaf_of(order_at(orders, at)));
+    Spot {
+        at: past(orders, at),
+        n,
+    }
+}
+
+// An expression, or a comparison, whose fields are put at p.
+pub fn read_expression(
+    orders: &[u64],
+    at: usize,
     first: u32,
     word: u32,
-    w: u32,
-    kinds: &mut [u8],
-    values: &mut [u32],
-    out: usize,
-) -> Back
-    ensures { λ r.
-        ⌜ Enough start end (told r (now (kinds .exit)) (now (values .exit)))
-        (λ f. keptRead (expressionRead f (orderAt (now (numbers .entry)) (now (operands .entry))) first start)
-        (orderAt (now (numbers .entry)) (now (operands .entry))) first start word end w
-        (view out (now (kinds .entry)) (now (values .entry)))) ⌝ }
+    fields: &mut [u64],
+    p: usize,
+) -> Spot
+    ensures { λ r. ⌜ Reading (now (orders .entry)) at first word (now (fields .entry)) p r (now (fields .exit)) ⌝ }
 {
-    if w == 0 {
-        return Back::Missing;
+    let links = count_links(orders, past(orders, at), first, word);
+    let mut q = leaf_place(fields.len(), p, links);
+    let mut s = read_leaf(orders, at, fields, q);
+    while p < q {
+        q -= 1;
+        s = read_link(orders, first, word, fields, q, s);
     }
-    if w - 1 != word {
-        return Back::Missing;
-    }
-    let load = Order::Word(Operation::Load, word);
-    let Place::At(a) = taken(numbers, operands, start, end, load) else {
-        return Back::Missing;
-    };
-    let Place::At(b) = taken(numbers, operands, start, a, Order::Store(w)) else {
-        return Back::Missing;
-    };
-    if is_leaf(numbers, operands, start, b, first) {
-        return Back::Missing;
-    }
-    let back = read_expression(numbers, operands, start, b, first, w, kinds, values, out);
-    let Back::Found(c, o) = back else {
-        return Back::Missing;
-    };
-    let Place::At(d) = taken(numbers, operands, start, c, Order::Store(word)) else {
-        return Back::Missing;
-    };
-    Back::Found(d, o)
+    s
 }
 
-// What stands to the right of a left operand.
-fn read_right(
-    numbers: &[u8],
-    operands: &[u32],
-    start: u32,
-    end: u32,
-    first: u32,
-    word: u32,
-    right: Right,
-    kinds: &mut [u8],
-    values: &mut [u32],
-    out: usize,
-) -> Back
-    ensures { λ r.
-        ⌜ Enough start end (told r (now (kinds .exit)) (now (values .exit)))
-        (λ f. rightRead (expressionRead f (orderAt (now (numbers .entry)) (now (operands .entry))) first start)
-        (orderAt (now (numbers .entry)) (now (operands .entry))) first start word end right
-        (view out (now (kinds .entry)) (now (values .entry)))) ⌝ }
+// One link outwards: its operator goes to q, its right operand behind the fields so far.
+fn read_link(orders: &[u64], first: u32, word: u32, fields: &mut [u64], q: usize, s: Spot) -> Spot
+    ensures { λ r. ⌜ Linking (now (orders .entry)) first word q s (now (fields .entry)) r (now (fields .exit)) ⌝ }
 {
-    match right {
-        Right::Nothing => Back::Found(end, out),
-        Right::Plain(f) => {
-            let o = put(kinds, values, out, f);
-            Back::Found(end, o)
+    let at = s.at;
+    let n = s.n;
+    if orders.len() <= at {
+        return s;
+    }
+    match link_at(orders, at, first, word) {
+        Link::Unary(f) => {
+            put_field(fields, q, f);
+            Spot { at: at + 1, n }
         }
-        Right::Kept(w) => {
-            read_kept(
-                numbers,
-                operands,
-                start,
-                end,
-                first,
-                word,
-                w,
-                kinds,
-                values,
-                out,
-            )
+        Link::Plain(f, x) => {
+            put_field(fields, q, f);
+            let m = put_field(fields, n, x);
+            Spot { at: at + 1, n: m }
         }
-    }
-}
-
-// The operands of an order: what stands to the right, then the left one.
-fn read_operands(
-    numbers: &[u8],
-    operands: &[u32],
-    start: u32,
-    end: u32,
-    first: u32,
-    word: u32,
-    right: Right,
-    kinds: &mut [u8],
-    values: &mut [u32],
-    out: usize,
-) -> Back
-    ensures { λ r.
-        ⌜ Enough start end (told r (now (kinds .exit)) (now (values .exit)))
-        (λ f. operandsRead (expressionRead f (orderAt (now (numbers .entry)) (now (operands .entry))) first start)
-        (orderAt (now (numbers .entry)) (now (operands .entry))) first start word end right
-        (view out (now (kinds .entry)) (now (values .entry)))) ⌝ }
-{
-    let back = read_right(
-        numbers,
-        operands,
-        start,
-        end,
-        first,
-        word,
-        right,
-        kinds,
-        values,
-        out,
-    );
-    let Back::Found(e, o) = back else {
-        return Back::Missing;
-    };
-    read_expression(numbers, operands, start, e, first, word, kinds, values, o)
-}
-
-fn read_expression(
-    numbers: &[u8],
-    operands: &[u32],
-    start: u32,
-    end: u32,
-    first: u32,
-    word: u32,
-    kinds: &mut [u8],
-    values: &mut [u32],
-    out: usize,
-) -> Back
-    ensures { λ r.
-        ⌜ Enough start end (told r (now (kinds .exit)) (now (values .exit))) (λ f. expressionRead f
-        (orderAt (now (numbers .entry)) (now (operands .entry))) first start word end
-        (view out (now (kinds .entry)) (now (values .entry)))) ⌝ }
-{
-    if end <= start {
-        return Back::Missing;
-    }
-    let last = end - 1;
-    match node_of(order_at(numbers, operands, last), first) {
-        Node::Leaf(f) => {
-            let o = put(kinds, values, out, f);
-            Back::Found(last, o)
+        Link::Kept => {
+            let r = read_expression(orders, at + 1, first, next(word), fields, n);
+            let c = past(orders, past(orders, r.at));
+            put_field(fields, q, operator_of(order_at(orders, c)));
+            Spot {
+                at: past(orders, c),
+                n: r.n,
+            }
         }
-        Node::Over(f, right) => {
-            let back = read_operands(
-                numbers,
-                operands,
-                start,
-                last,
-                first,
-                word,
-                right,
-                kinds,
-                values,
-                out,
-            );
-            put_before(kinds, values, back, f)
-        }
-        Node::Compare(_) => Back::Missing,
-        Node::Bad => Back::Missing,
-    }
-}
-
-// A reading that ended at `start`.
-fn whole(back: Back, start: u32) -> Back
-    ensures { λ r. ⌜ Whole start back r ⌝ }
-{
-    let Back::Found(e, o) = back else {
-        return Back::Missing;
-    };
-    if e == start {
-        return Back::Found(e, o);
-    }
-    Back::Missing
-}
-
-// All of the orders are an expression.
-pub fn read_whole(
-    numbers: &[u8],
-    operands: &[u32],
-    start: u32,
-    end: u32,
-    first: u32,
-    kinds: &mut [u8],
-    values: &mut [u32],
-    out: usize,
-) -> Back
-    ensures { λ r.
-        ⌜ told r (now (kinds .exit)) (now (values .exit))
-        ≡ wholeRead (orderAt (now (numbers .entry)) (now (operands .entry))) first start end
-        (view out (now (kinds .entry)) (now (values .entry))) ⌝ }
-{
-    let back = read_expression(
-        numbers,
-        operands,
-        start,
-        end,
-        first,
-        first,
-        kinds,
-        values,
-        out,
-    );
-    whole(back, start)
-}
-
-// All of the orders are a comparison, whose last order is CMP.
-pub fn read_comparison(
-    numbers: &[u8],
-    operands: &[u32],
-    start: u32,
-    end: u32,
-    first: u32,
-    kinds: &mut [u8],
-    values: &mut [u32],
-    out: usize,
-) -> Back
-    ensures { λ r.
-        ⌜ told r (now (kinds .exit)) (now (values .exit))
-        ≡ comparisonRead (orderAt (now (numbers .entry)) (now (operands .entry))) first start end
-        (view out (now (kinds .entry)) (now (values .entry))) ⌝ }
-{
-    if end <= start {
-        return Back::Missing;
-    }
-    let last = end - 1;
-    match node_of(order_at(numbers, operands, last), first) {
-        Node::Leaf(_) => Back::Missing,
-        Node::Over(_, _) => Back::Missing,
-        Node::Compare(right) => {
-            let back = read_operands(
-                numbers,
-                operands,
-                start,
-                last,
-                first,
-                first,
-                right,
-                kinds,
-                values,
-                out,
-            );
-            whole(back, start)
-        }
-        Node::Bad => Back::Missing,
+        Link::End => s,
     }
 }

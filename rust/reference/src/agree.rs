@@ -257,11 +257,11 @@ impl Outcomes {
         refused.map_or((0, 0), |(count, places)| (*count, places.len()))
     }
 
-    /// Holds acceptance and each refusal of a source, from 1 to 11, to having been met `least`
+    /// Holds acceptance and each refusal of a source, from 1 to 11 and 13, to having been met `least`
     /// times, and each but 1, which has only one place, to several places.
     pub fn every_one(&self, name: &str, least: usize) {
         assert!(self.accepted >= least, "{name}: {} accepted", self.accepted);
-        for number in 1..=11 {
+        for number in (1..=11).chain([13]) {
             self.met(name, number, least, if number == 1 { 1 } else { 5 });
         }
     }

@@ -1,7 +1,7 @@
 //! Sheets in few pieces: the nodes of all expressions stand in one list, so that none is allocated
 //! by itself. Source is read to such a sheet, and translating, reading back and writing work on it.
 
-use crate::sheet::{Expression, Instruction, Operator, Sheet, Sign, Simple};
+use crate::sheet::{count, Expression, Line, Operator, Sheet, Sign, Simple};
 use crate::sheet::{OPERATORS, RELATIONS, SIGNS};
 use crate::text::put_number;
 
@@ -27,7 +27,7 @@ impl Node {
 pub struct Compact {
     pub variables: u32,
     pub nodes: Vec<Node>,
-    pub instructions: Vec<Instruction<Place>>,
+    pub lines: Vec<Line<Place>>,
 }
 
 impl Compact {
@@ -35,7 +35,7 @@ impl Compact {
         Compact {
             variables,
             nodes: Vec::new(),
-            instructions: Vec::new(),
+            lines: Vec::new(),
         }
     }
 
@@ -51,9 +51,9 @@ impl Compact {
 
     pub fn of(sheet: &Sheet) -> Compact {
         let mut compact = Compact::new(sheet.variables);
-        for instruction in &sheet.instructions {
-            let instruction = instruction.map(|expression| compact.put_all(expression));
-            compact.instructions.push(instruction);
+        for line in &sheet.lines {
+            let line = line.map(|expression| compact.put_all(expression));
+            compact.lines.push(line);
         }
         compact
     }
@@ -73,11 +73,11 @@ impl Compact {
     }
 
     pub fn sheet(&self) -> Sheet {
-        let instructions = self.instructions.iter();
+        let lines = self.lines.iter();
         Sheet {
             variables: self.variables,
-            instructions: instructions
-                .map(|instruction| instruction.map(|place| self.expression(*place)))
+            lines: lines
+                .map(|line| line.map(|place| self.expression(*place)))
                 .collect(),
         }
     }
@@ -99,40 +99,38 @@ impl Compact {
 impl Compact {
     /// The sheet text.
     pub fn text(&self) -> Vec<u8> {
-        let mut text = Vec::with_capacity(16 * (self.nodes.len() + self.instructions.len()) + 32);
+        let mut text = Vec::with_capacity(16 * (self.nodes.len() + self.lines.len()) + 32);
         text.extend_from_slice(b"SHEET\t");
         put_number(&mut text, self.variables);
         text.push(b'\t');
-        put_number(&mut text, self.instructions.len() as u32);
+        put_number(&mut text, count(&self.lines));
         text.push(b'\n');
-        for instruction in &self.instructions {
-            self.write(&mut text, instruction);
+        for line in &self.lines {
+            self.write(&mut text, line);
             text.push(b'\n');
         }
         text
     }
 
-    fn write(&self, text: &mut Vec<u8>, instruction: &Instruction<Place>) {
-        match instruction {
-            Instruction::Simple(simple) => self.write_simple(text, simple),
-            Instruction::If {
+    /// "In a sheet an IF line ends with its expressions; a line `START`, the first part, where there
+    /// is a second a line `ELSE` and that part, and a line `FINISH` follow, a lone u as a group of
+    /// one."
+    fn write(&self, text: &mut Vec<u8>, line: &Line<Place>) {
+        match line {
+            Line::Simple(simple) => self.write_simple(text, simple),
+            Line::If {
                 relation,
                 left,
                 right,
-                then,
-                otherwise,
             } => {
                 text.extend_from_slice(b"IF\t");
                 text.extend_from_slice(RELATIONS[*relation as usize].1.as_bytes());
                 self.write_expression(text, *left);
                 self.write_expression(text, *right);
-                text.extend_from_slice(b"\tTHEN\t");
-                self.write_simple(text, then);
-                if let Some(otherwise) = otherwise {
-                    text.extend_from_slice(b"\tELSE\t");
-                    self.write_simple(text, otherwise);
-                }
+                text.extend_from_slice(b"\nSTART");
             }
+            Line::Else => text.extend_from_slice(b"ELSE"),
+            Line::Finish => text.extend_from_slice(b"FINISH"),
         }
     }
 

@@ -1,13 +1,13 @@
-//! How many orders and temporaries the translation of an instruction has, without translating it.
+//! How many orders and temporaries the translation of a line has, without translating it.
 
 use crate::compact::{Compact, Node, Place};
-use crate::sheet::{Instruction, Simple};
+use crate::sheet::{Line, Simple};
 
-/// How many orders an instruction has, and how many temporaries it uses.
-pub fn counts(instruction: &Instruction) -> (u32, u32) {
+/// How many orders a line has, and how many temporaries it uses.
+pub fn counts(line: &Line) -> (u32, u32) {
     let mut compact = Compact::new(0);
-    let instruction = instruction.map(|expression| compact.put_all(expression));
-    let count = compact.count(&instruction);
+    let line = line.map(|expression| compact.put_all(expression));
+    let count = compact.count(&line);
     (count.orders, count.temporaries)
 }
 
@@ -36,24 +36,14 @@ impl Count {
 
 /// Counting what translating puts, without putting it.
 impl Compact {
-    pub fn count(&self, instruction: &Instruction<Place>) -> Count {
-        match instruction {
-            Instruction::Simple(simple) => self.count_simple(simple),
-            Instruction::If {
-                left,
-                right,
-                then,
-                otherwise,
-                ..
-            } => {
-                // the branch, and the JMP that closes the first u
-                let both = self.count_binary(*left, *right).and_orders(1);
-                let first = both.and(self.count_simple(then));
-                match otherwise {
-                    Some(second) => first.and_orders(1).and(self.count_simple(second)),
-                    None => first,
-                }
-            }
+    pub fn count(&self, line: &Line<Place>) -> Count {
+        match line {
+            Line::Simple(simple) => self.count_simple(simple),
+            // the branch
+            Line::If { left, right, .. } => self.count_binary(*left, *right).and_orders(1),
+            // the SKIP
+            Line::Else => Count::default().and_orders(1),
+            Line::Finish => Count::default(),
         }
     }
 

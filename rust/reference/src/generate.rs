@@ -1,9 +1,9 @@
 //! Random sheets, of exactly so many orders.
 
 use crate::object::{Order, STOP};
-use crate::object::{MOST_NUMBER, MOST_ORDERS, MOST_TEMPORARIES, MOST_VARIABLES};
+use crate::object::{MOST_LEVELS, MOST_NUMBER, MOST_ORDERS, MOST_TEMPORARIES, MOST_VARIABLES};
 use crate::random::Random;
-use crate::sheet::{Expression, Instruction, Operator, Relation, Sheet, Simple};
+use crate::sheet::{count, Expression, Line, Operator, Relation, Sheet, Simple};
 use crate::sheet::{OPERATORS, RELATIONS, SIGNS};
 use crate::translate::without_limits;
 
@@ -13,12 +13,16 @@ pub struct Plan {
     pub variables: u32,
     /// How many temporaries its expressions may use.
     pub temporaries: u32,
+    /// How many IFs may stand in each other.
+    pub levels: usize,
+    /// Most of its instructions stand in as many parts as they may.
+    pub deep: bool,
     /// Few operations of it may fault.
     pub calm: bool,
     /// No GOTO leads back, so that it ends.
     pub forward: bool,
-    /// Its last two instructions count up a variable that no other sets, and lead back to the
-    /// first until so many rounds are done. They have `LOOP` orders.
+    /// Its last instructions count up a variable that no other sets, and lead back to the first
+    /// until so many rounds are done. They have `LOOP` orders.
     pub rounds: Option<u32>,
 }
 
@@ -49,6 +53,11 @@ impl Plan {
                 0 => random.below(MOST_TEMPORARIES as usize) as u32,
                 _ => MOST_TEMPORARIES,
             },
+            levels: match random.below(4) {
+                0 => random.between(0, MOST_LEVELS),
+                _ => MOST_LEVELS,
+            },
+            deep: random.once_in(5),
             calm: !random.once_in(4),
             forward: random.once_in(2),
             rounds: random.once_in(3).then(|| random.between(1, 20) as u32),
@@ -115,6 +124,7 @@ impl Plan {
         let mut sizes = Vec::new();
         while left > 0 {
             let size = match random.below(64) {
+                8.. if self.deep => random.between(left.div_ceil(2), left),
                 0..=7 => 1,
                 8..=55 => random.between(2, 14),
                 56..=62 => random.between(2, 60),
@@ -126,39 +136,36 @@ impl Plan {
         plan.sheet_of(random, &sizes)
     }
 
-    /// A random sheet with an instruction for each size, of as many orders, and the loop if there
-    /// is to be one.
+    /// A random sheet with an outermost instruction for each size, of as many orders with its parts,
+    /// and the loop if there is to be one.
     pub fn sheet_of(self, random: &mut Random, sizes: &[usize]) -> Sheet {
-        let count = sizes.len() + 2 * usize::from(self.rounds.is_some());
         let mut maker = Maker {
             random,
             plan: self,
             words: self.variables - u32::from(self.rounds.is_some()),
-            number: 0,
-            count: count as u32,
+            lines: Vec::new(),
             nesting: Nesting::Both,
         };
-        let mut instructions = Vec::with_capacity(count);
         for &size in sizes {
-            maker.number += 1;
-            instructions.push(maker.instruction(size));
+            maker.instruction(size, 0);
         }
+        maker.lead_gotos();
+        let mut lines = maker.lines;
         if let Some(rounds) = self.rounds {
             let counter = || Box::new(Expression::Word(self.variables + 1));
             let one = Box::new(Expression::Constant(1));
             let sum = Expression::Binary(Operator::Add, counter(), one);
-            instructions.push(Instruction::Simple(Simple::Set(self.variables + 1, sum)));
-            instructions.push(Instruction::If {
+            lines.push(Line::Simple(Simple::Set(self.variables + 1, sum)));
+            lines.push(Line::If {
                 relation: Relation::Less,
                 left: *counter(),
                 right: Expression::Constant(rounds),
-                then: Simple::Goto(1),
-                otherwise: None,
             });
+            lines.extend([Line::Simple(Simple::Goto(1)), Line::Finish]);
         }
         Sheet {
             variables: self.variables,
-            instructions,
+            lines,
         }
     }
 }
@@ -168,51 +175,118 @@ struct Maker<'r> {
     plan: Plan,
     /// How many variables may be named.
     words: u32,
-    /// The instruction's number, from 1, and how many there are.
-    number: u32,
-    count: u32,
+    /// Those of the sheet so far.
+    lines: Vec<Line>,
     nesting: Nesting,
 }
 
 impl Maker<'_> {
-    /// An instruction of `orders` orders.
-    fn instruction(&mut self, orders: usize) -> Instruction {
-        let has_else = orders >= 6 && self.random.once_in(2);
-        if orders < 4 || self.random.once_in(3) {
-            return Instruction::Simple(self.simple(orders));
+    /// Puts an instruction of `orders` orders, those of its parts included, in so many IFs.
+    fn instruction(&mut self, orders: usize, level: usize) {
+        let wants = self.plan.deep && !self.random.once_in(16) || !self.random.once_in(3);
+        if orders < 4 || level >= self.plan.levels || !wants {
+            let simple = self.simple(orders);
+            return self.lines.push(Line::Simple(simple));
         }
-        // the branch, and with ELSE the JMP; the comparison has at least two orders
+        let has_else = orders >= 6 && !self.random.once_in(if self.plan.deep { 4 } else { 2 });
+        // the branch, and with ELSE the SKIP; the comparison has at least two orders
         let left = orders - 1 - usize::from(has_else);
-        let most = left - 2 - usize::from(has_else);
-        let then = self.part(most);
-        let second = if has_else {
-            self.part(left - 2 - then)
-        } else {
-            0
-        };
+        let (first, second) = self.parts(left - 2, has_else);
         self.choose_nesting();
-        let (left, right) = self.operands(left - then - second, self.plan.temporaries);
-        Instruction::If {
-            relation: self.random.pick(&RELATIONS).0,
+        let (left, mut right) = self.operands(left - first - second, self.plan.temporaries);
+        let mut relation = self.random.pick(&RELATIONS).0;
+        // inner parts are done only where all IFs around them lead there
+        let is_plain = left.is_plain() && right.is_plain();
+        if self.plan.deep && is_plain && self.random.once_in(2) {
+            right = left.clone();
+            let holding = [Relation::Equal, Relation::AtMost, Relation::AtLeast];
+            relation = self.random.pick(&holding);
+        }
+        self.lines.push(Line::If {
+            relation,
             left,
             right,
-            then: self.simple(then),
-            otherwise: has_else.then(|| self.simple(second)),
+        });
+        self.part(first, level + 1);
+        if has_else {
+            self.lines.push(Line::Else);
+            self.part(second, level + 1);
+        }
+        self.lines.push(Line::Finish);
+    }
+
+    /// The orders of the parts of an IF, of `most` at most; of a second part there may be none.
+    fn parts(&mut self, most: usize, has_else: bool) -> (usize, usize) {
+        if self.plan.deep && !self.random.once_in(8) {
+            return match (has_else, self.random.once_in(3)) {
+                (false, _) => (most, 0),
+                (true, false) => (most - 1, 1),
+                (true, true) => (1, most - 1),
+            };
+        }
+        let first = self.size(most - usize::from(has_else));
+        match has_else {
+            true => (first, self.size(most - first)),
+            false => (first, 0),
         }
     }
 
     /// From 1 to `most`, mostly few.
-    fn part(&mut self, most: usize) -> usize {
+    fn size(&mut self, most: usize) -> usize {
         match self.random.below(4) {
             0 => 1,
             1 => self.random.between(1, most),
-            _ => self.random.between(1, most.min(6)),
+            _ => self.random.between(1, most.min(9)),
+        }
+    }
+
+    /// Puts one instruction or several, of `orders` orders together.
+    fn part(&mut self, orders: usize, level: usize) {
+        let way = if self.plan.deep {
+            3
+        } else {
+            self.random.below(3)
+        };
+        let mut left = orders;
+        match way {
+            0 => {
+                let simple = self.simple(orders);
+                return self.lines.push(Line::Simple(simple));
+            }
+            1 => return self.instruction(orders, level),
+            _ => {}
+        }
+        while left > 1 && (way == 2 || self.random.once_in(6)) {
+            let size = self.size(left - 1);
+            self.instruction(size, level);
+            left -= size;
+        }
+        // a small one may stand behind a large one, too
+        let behind = usize::from(left > 4 && self.random.once_in(6));
+        self.instruction(left - behind, level);
+        if behind > 0 {
+            self.instruction(behind, level);
+        }
+    }
+
+    /// Lets the GOTOs lead to instructions of the whole sheet.
+    fn lead_gotos(&mut self) {
+        let in_loop = if self.plan.rounds.is_some() { 3 } else { 0 };
+        let end = count(&self.lines) + in_loop + 1;
+        let mut number = 0;
+        for place in 0..self.lines.len() {
+            number += u32::from(self.lines[place].is_instruction());
+            let other = self.target(number, end);
+            if let Some(target) = self.lines[place].target() {
+                *target = other;
+            }
         }
     }
 
     fn simple(&mut self, orders: usize) -> Simple {
         if orders == 1 {
-            return Simple::Goto(self.target());
+            // where it leads is chosen once all instructions are there
+            return Simple::Goto(1);
         }
         self.choose_nesting();
         let value = self.expression(orders - 1, self.plan.temporaries);
@@ -231,18 +305,13 @@ impl Maker<'_> {
         };
     }
 
-    /// Where a GOTO leads: any instruction, or the end.
-    fn target(&mut self) -> u32 {
-        let first = if self.plan.forward {
-            self.number + 1
-        } else {
-            1
-        };
-        let end = self.count + 1;
+    /// Where the GOTO of a number leads: any instruction, or the end.
+    fn target(&mut self, number: u32, end: u32) -> u32 {
+        let first = if self.plan.forward { number + 1 } else { 1 };
         match self.random.below(6) {
             0 => end,
             1 => first,
-            2 => end.min(self.number + 1),
+            2 => end.min(number + 1),
             _ => self.random.between(first as usize, end as usize) as u32,
         }
     }

@@ -1,7 +1,7 @@
 //! The meaning of a program, laid down on its instructions and the word arithmetic. No order
 //! appears in it: the counts are those of document 01's rules for each form.
 
-use crate::sheet::{Expression, Instruction, Operator, Relation, Sheet, Sign, Simple};
+use crate::sheet::{closings, Expression, Line, Operator, Relation, Sheet, Sign, Simple};
 
 /// How a program ends, with document 01's numbers of faults and `skimp_run`'s number of a stop.
 #[derive(Clone, Copy, Debug, PartialEq, Eq)]
@@ -16,13 +16,15 @@ pub enum Ending {
 /// A program after some of its instructions.
 pub struct Meaning<'a> {
     pub sheet: &'a Sheet,
+    /// The line that closes the part after each IF and ELSE.
+    closings: Vec<usize>,
+    /// The line of each instruction, and the end.
+    instructions: Vec<usize>,
     /// How many numbers the output has room for.
     room: usize,
-    /// The instruction to be done next, from 0, or the one that faulted. One past the last is the
-    /// end.
+    /// The line of the instruction to be done next, from 0, or of the one that faulted. One past the
+    /// last is the end.
     pub next: usize,
-    /// The fault was met in the instruction's second u.
-    pub in_else: bool,
     pub variables: Vec<i32>,
     pub sent: Vec<i32>,
     /// The orders of the path so far, and those before the last instruction.
@@ -33,16 +35,21 @@ pub struct Meaning<'a> {
     pub operations: [usize; 10],
     /// How often each relation failed and held.
     pub comparisons: [[usize; 2]; 6],
+    /// How often the way from one instruction to the next led over one SKIP, two, or more.
+    pub skips: [usize; 3],
 }
 
 impl<'a> Meaning<'a> {
     /// "Words start at 0."
     pub fn new(sheet: &'a Sheet, room: usize) -> Meaning<'a> {
+        let places = 0..sheet.lines.len();
+        let instructions = places.filter(|&place| sheet.lines[place].is_instruction());
         Meaning {
             sheet,
+            closings: closings(&sheet.lines),
+            instructions: instructions.chain([sheet.lines.len()]).collect(),
             room,
             next: 0,
-            in_else: false,
             variables: vec![0; sheet.variables as usize],
             sent: Vec::new(),
             count: 0,
@@ -50,6 +57,7 @@ impl<'a> Meaning<'a> {
             ending: None,
             operations: [0; 10],
             comparisons: [[0; 2]; 6],
+            skips: [0; 3],
         }
     }
 
@@ -59,51 +67,67 @@ impl<'a> Meaning<'a> {
             return;
         }
         self.begun = self.count;
-        let Some(instruction) = self.sheet.instructions.get(self.next) else {
+        let Some(line) = self.sheet.lines.get(self.next) else {
             self.count += 1;
             self.ending = Some(Ending::Stopped);
             return;
         };
-        let place = self.next;
-        self.next += 1;
-        if let Err(fault) = self.instruction(instruction) {
-            self.next = place;
+        if let Err(fault) = self.instruction(line) {
             self.ending = Some(fault);
         }
     }
 
-    fn instruction(&mut self, instruction: &Instruction) -> Result<(), Ending> {
-        match instruction {
-            Instruction::Simple(simple) => self.simple(simple),
-            Instruction::If {
+    fn instruction(&mut self, line: &Line) -> Result<(), Ending> {
+        let behind = self.next + 1;
+        match line {
+            Line::Simple(Simple::Goto(instruction)) => {
+                self.count += 1;
+                self.next = self.instructions[*instruction as usize - 1];
+            }
+            Line::Simple(simple) => {
+                self.simple(simple)?;
+                self.go_on(behind);
+            }
+            Line::If {
                 relation,
                 left,
                 right,
-                then,
-                otherwise,
             } => {
                 let (left, right) = self.operands(left, right)?;
                 // the comparison and the branch
                 self.count += 2;
                 let holds = holds(*relation, left, right);
                 self.comparisons[*relation as usize][usize::from(holds)] += 1;
-                match (holds, otherwise) {
-                    (true, None) => self.simple(then),
-                    (true, Some(_)) => {
-                        self.simple(then)?;
-                        // the jump over the second, unless the first has led away
-                        self.count += u64::from(!matches!(then, Simple::Goto(_)));
-                        Ok(())
-                    }
-                    (false, Some(otherwise)) => {
-                        self.in_else = true;
-                        self.simple(otherwise)?;
-                        self.in_else = false;
-                        Ok(())
-                    }
-                    (false, None) => Ok(()),
+                match holds {
+                    true => self.next = behind,
+                    // a second part begins behind its ELSE, what follows the IF behind its FINISH
+                    false => self.go_on(self.closings[self.next] + 1),
                 }
             }
+            Line::Else | Line::Finish => unreachable!("no instruction"),
+        }
+        Ok(())
+    }
+
+    /// Goes on from a line to the next instruction or the end. "A SKIP counts with the instruction
+    /// done just before it": where a first part ends before an ELSE, the way leads over the second.
+    fn go_on(&mut self, line: usize) {
+        let mut place = line;
+        let mut skips = 0;
+        loop {
+            place = match self.sheet.lines.get(place) {
+                Some(Line::Else) => {
+                    skips += 1;
+                    self.closings[place] + 1
+                }
+                Some(Line::Finish) => place + 1,
+                _ => break,
+            };
+        }
+        self.next = place;
+        self.count += skips;
+        if skips > 0 {
+            self.skips[skips.min(3) as usize - 1] += 1;
         }
     }
 
@@ -120,7 +144,7 @@ impl<'a> Meaning<'a> {
                 }
                 self.sent.push(value);
             }
-            Simple::Goto(instruction) => self.next = *instruction as usize - 1,
+            Simple::Goto(_) => unreachable!("leads elsewhere"),
         }
         self.count += 1;
         Ok(())

@@ -1,6 +1,6 @@
-//! The rules of document 01 in plain Rust. The tests compare the archives with it, and the
-//! benchmark measures the archive's calls against its own, so they are written for speed. It shares
-//! no code with the archives.
+//! The rules of document 01 in plain Rust, with the groups of request L1. The tests compare the
+//! archives with it, and the benchmark measures the archive's calls against its own, so they are
+//! written for speed. It shares no code with the archives.
 //!
 //! Besides the rules there is what the tests of this workspace share: random numbers, sheets and
 //! sources (`random`, `generate`, `writing`), damaged objects (`damage`), what was covered

@@ -101,7 +101,7 @@ impl State {
             Name::Str => *word = acc,
             Name::Neg => acc = acc.wrapping_neg(),
             Name::Not => acc = !acc,
-            Name::Jmp => next = target,
+            Name::Jmp | Name::Skip => next = target,
             Name::Be if acc == 0 => next = target,
             Name::Bne if acc != 0 => next = target,
             Name::Blt if (acc as i32) < 0 => next = target,

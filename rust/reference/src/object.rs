@@ -6,6 +6,8 @@ use crate::Refusal;
 pub const MOST_VARIABLES: u32 = 64;
 pub const MOST_TEMPORARIES: u32 = 32;
 pub const MOST_ORDERS: usize = 1024;
+/// How many IFs may stand in each other.
+pub const MOST_LEVELS: usize = 16;
 /// Words 0 and 1 of the frame are the link words, which no order may name.
 pub const LINK_WORDS: u32 = 2;
 pub const MOST_NUMBER: u32 = 2_147_483_647;
@@ -24,7 +26,7 @@ const BAD_STOP: u32 = 25;
 pub enum Name {
     Load, Add, Sub, Mlt, Div, Exp, Shl, Shr, And, Or, Xor, Cmp,
     Str,
-    Jmp, Be, Bne, Blt, Ble, Bgt, Bge,
+    Jmp, Skip, Be, Bne, Blt, Ble, Bgt, Bge,
     Neg, Not, Send, Stop,
 }
 
@@ -52,10 +54,10 @@ pub const STOP: Order = Order {
 
 /// The names as records have them, in the order of `Name`.
 #[rustfmt::skip]
-const NAMES: [&str; 24] = [
+const NAMES: [&str; 25] = [
     "LOAD", "ADD", "SUB", "MLT", "DIV", "EXP", "SHL", "SHR", "AND", "OR", "XOR", "CMP",
     "STR",
-    "JMP", "BE", "BNE", "BLT", "BLE", "BGT", "BGE",
+    "JMP", "SKIP", "BE", "BNE", "BLT", "BLE", "BGT", "BGE",
     "NEG", "NOT", "SEND", "STOP",
 ];
 
@@ -223,6 +225,7 @@ fn with_value(name: &[u8]) -> Option<Name> {
 fn with_address(name: &[u8]) -> Option<Name> {
     Some(match name {
         b"JMP" => Name::Jmp,
+        b"SKIP" => Name::Skip,
         b"BE" => Name::Be,
         b"BNE" => Name::Bne,
         b"BLT" => Name::Blt,

@@ -2,7 +2,7 @@
 
 use crate::count::counts;
 use crate::interpret::{Ending, Meaning};
-use crate::sheet::{Instruction, Sheet, OPERATORS, RELATIONS};
+use crate::sheet::{Sheet, OPERATORS, RELATIONS};
 use crate::translate::Translation;
 
 /// A program that has not ended is left after so many instructions.
@@ -24,6 +24,7 @@ pub struct Runs {
     pub endings: [usize; 21],
     operations: [usize; 10],
     comparisons: [[usize; 2]; 6],
+    skips: [usize; 3],
 }
 
 /// The bytes that a run is lent and leaves.
@@ -99,9 +100,13 @@ impl Runs {
             all[0] += some[0];
             all[1] += some[1];
         }
+        for (all, some) in self.skips.iter_mut().zip(meaning.skips) {
+            *all += some;
+        }
     }
 
-    /// Holds every ending, operation and answer of a comparison to having come `least` times.
+    /// Holds every ending, operation and answer of a comparison, and one, two and more SKIPs in a
+    /// row, to having come `least` times.
     pub fn every_way(&self, source: &str, least: usize) {
         for number in [0, 1, 2, 3, 4, 20] {
             let count = self.endings[number];
@@ -117,6 +122,11 @@ impl Runs {
             assert!(failed >= least, "{source}: {sign} failed {failed} times");
             assert!(held >= least, "{source}: {sign} held {held} times");
         }
+        let skips = self.skips;
+        assert!(
+            skips.iter().all(|&count| count >= least),
+            "{source}: SKIPs in a row {skips:?}"
+        );
     }
 }
 
@@ -178,11 +188,11 @@ impl Lent {
     }
 }
 
-/// The first order of each instruction, and STOP.
+/// The first order of each line, and STOP.
 fn first_orders(sheet: &Sheet) -> Vec<u32> {
     let mut firsts = vec![0];
-    for instruction in &sheet.instructions {
-        firsts.push(firsts[firsts.len() - 1] + counts(instruction).0);
+    for line in &sheet.lines {
+        firsts.push(firsts[firsts.len() - 1] + counts(line).0);
     }
     firsts
 }
@@ -193,18 +203,7 @@ fn next_order(meaning: &Meaning, firsts: &[u32]) -> u32 {
     let first = firsts[meaning.next];
     match meaning.ending {
         None | Some(Ending::Stopped) => first,
-        Some(_) => first + (meaning.count - meaning.begun) as u32 + passed(meaning),
-    }
-}
-
-/// The orders that a faulting instruction has passed by: before its second u, the first with its
-/// JMP.
-fn passed(meaning: &Meaning) -> u32 {
-    match &meaning.sheet.instructions[meaning.next] {
-        Instruction::If { then, .. } if meaning.in_else => {
-            counts(&Instruction::Simple(then.clone())).0 + 1
-        }
-        _ => 0,
+        Some(_) => first + (meaning.count - meaning.begun) as u32,
     }
 }
 

@@ -51,7 +51,7 @@ pub const RELATIONS: [(Relation, &str); 6] = [
     (Relation::AtLeast, ">="),
 ];
 
-/// An instruction that may stand after THEN and ELSE. `E` is what stands for an expression.
+/// An instruction that is no IF. `E` is what stands for an expression.
 #[derive(Clone, Copy, Debug, PartialEq, Eq)]
 pub enum Simple<E = Expression> {
     /// The word becomes the expression's value.
@@ -61,23 +61,25 @@ pub enum Simple<E = Expression> {
     Goto(u32),
 }
 
+/// A line of a sheet's text. The line START, which follows each IF, has no case of its own.
 #[derive(Clone, Copy, Debug, PartialEq, Eq)]
-pub enum Instruction<E = Expression> {
+pub enum Line<E = Expression> {
     Simple(Simple<E>),
+    /// Its first part goes on to the line ELSE or FINISH of the same level.
     If {
         relation: Relation,
         left: E,
         right: E,
-        then: Simple<E>,
-        otherwise: Option<Simple<E>>,
     },
+    Else,
+    Finish,
 }
 
 #[derive(Clone, Debug, PartialEq, Eq)]
 pub struct Sheet {
     /// V. The variables are the words 2 to V + 1.
     pub variables: u32,
-    pub instructions: Vec<Instruction>,
+    pub lines: Vec<Line>,
 }
 
 impl Expression {
@@ -87,55 +89,84 @@ impl Expression {
     }
 }
 
-impl<E> Simple<E> {
-    /// The same with other expressions.
-    fn map<F>(&self, change: &mut impl FnMut(&E) -> F) -> Simple<F> {
-        match self {
-            Simple::Set(word, value) => Simple::Set(*word, change(value)),
-            Simple::Send(value) => Simple::Send(change(value)),
-            Simple::Goto(instruction) => Simple::Goto(*instruction),
-        }
+impl<E> Line<E> {
+    /// "Sheet numbers count every instruction, nested ones and the IF itself included."
+    pub fn is_instruction(&self) -> bool {
+        matches!(self, Line::Simple(_) | Line::If { .. })
     }
-}
 
-impl<E> Instruction<E> {
     /// The same with other expressions.
-    pub fn map<F>(&self, mut change: impl FnMut(&E) -> F) -> Instruction<F> {
+    pub fn map<F>(&self, mut change: impl FnMut(&E) -> F) -> Line<F> {
         match self {
-            Instruction::Simple(simple) => Instruction::Simple(simple.map(&mut change)),
-            Instruction::If {
+            Line::Simple(Simple::Set(word, value)) => {
+                Line::Simple(Simple::Set(*word, change(value)))
+            }
+            Line::Simple(Simple::Send(value)) => Line::Simple(Simple::Send(change(value))),
+            Line::Simple(Simple::Goto(instruction)) => Line::Simple(Simple::Goto(*instruction)),
+            Line::If {
                 relation,
                 left,
                 right,
-                then,
-                otherwise,
-            } => Instruction::If {
+            } => Line::If {
                 relation: *relation,
                 left: change(left),
                 right: change(right),
-                then: then.map(&mut change),
-                otherwise: otherwise.as_ref().map(|it| it.map(&mut change)),
             },
+            Line::Else => Line::Else,
+            Line::Finish => Line::Finish,
         }
     }
 
-    /// Where its GOTOs lead, in order of the text.
-    pub fn targets(&mut self) -> impl Iterator<Item = &mut u32> {
-        let (first, second) = match self {
-            Instruction::Simple(simple) => (simple, None),
-            Instruction::If {
-                then, otherwise, ..
-            } => (then, otherwise.as_mut()),
-        };
-        let simples = [Some(first), second].into_iter().flatten();
-        simples.filter_map(|simple| match simple {
-            Simple::Goto(target) => Some(target),
+    /// Where it leads, if it is a GOTO.
+    pub fn target(&mut self) -> Option<&mut u32> {
+        match self {
+            Line::Simple(Simple::Goto(target)) => Some(target),
             _ => None,
-        })
+        }
     }
 }
 
+/// How many of the lines are instructions.
+pub fn count<E>(lines: &[Line<E>]) -> u32 {
+    lines.iter().filter(|line| line.is_instruction()).count() as u32
+}
+
+/// For each IF the place of the line that closes its first part, for each ELSE that of its FINISH,
+/// and 0 for other lines.
+pub fn closings<E>(lines: &[Line<E>]) -> Vec<usize> {
+    let mut closings = vec![0; lines.len()];
+    let mut open = Vec::new();
+    for (place, line) in lines.iter().enumerate() {
+        if let Line::Else | Line::Finish = line {
+            closings[open.pop().expect("an open part")] = place;
+        }
+        if let Line::If { .. } | Line::Else = line {
+            open.push(place);
+        }
+    }
+    closings
+}
+
+/// How many IFs stand in each other at most.
+pub fn depth<E>(lines: &[Line<E>]) -> usize {
+    let (mut most, mut open) = (0, 0);
+    for line in lines {
+        match line {
+            Line::If { .. } => open += 1,
+            Line::Finish => open -= 1,
+            _ => {}
+        }
+        most = most.max(open);
+    }
+    most
+}
+
 impl Sheet {
+    /// How many instructions it has.
+    pub fn count(&self) -> u32 {
+        count(&self.lines)
+    }
+
     /// The sheet text.
     pub fn text(&self) -> String {
         let text = Compact::of(self).text();

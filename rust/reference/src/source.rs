@@ -31,6 +31,7 @@ pub const NAME_MISUSED: u32 = 8;
 pub const LABEL_MISUSED: u32 = 9;
 pub const NO_END: u32 = 10;
 pub const OVER_LIMIT: u32 = 11;
+pub const GROUP_MISUSED: u32 = 13;
 
 fn refuse<T>(number: u32, place: u32) -> Result<T, Refusal> {
     Err(Refusal { number, place })
@@ -85,7 +86,7 @@ struct Reader {
 
 impl Reader {
     /// Takes a statement into the program. Gives whether it is `%ENDOFPROGRAM`, or the number of
-    /// its refusal: "the first of 5 and 6 from the left; then 7, 8, 9, 11".
+    /// its refusal: "the first of 5 and 6 from the left; then 7, 8, 9, 11", and 13 after 7.
     fn take(&mut self, cells: &[u8], number: u32) -> Result<bool, u32> {
         tokens::cut(cells, &mut self.tokens)?;
         let statement = grammar::parse(&self.tokens, cells, &mut self.nodes);

@@ -2,8 +2,8 @@
 
 use crate::compact::{Compact, Node, Place};
 use crate::object::{self, Kind, Name, Order, LINK_WORDS, STOP};
-use crate::object::{MOST_ORDERS, MOST_TEMPORARIES, MOST_VARIABLES};
-use crate::sheet::{Instruction, Operator, Relation, Sheet, Sign, Simple};
+use crate::object::{MOST_LEVELS, MOST_ORDERS, MOST_TEMPORARIES, MOST_VARIABLES};
+use crate::sheet::{depth, Line, Operator, Relation, Sheet, Sign, Simple};
 
 /// What a sheet translates to, or orders that may be such.
 #[derive(Clone, Debug, PartialEq, Eq)]
@@ -22,10 +22,11 @@ impl Translation {
     }
 }
 
-/// The translation, if V, T and N are within their limits.
+/// The translation, if V, T, N and the levels are within their limits.
 pub fn translate(sheet: &Sheet) -> Option<Translation> {
     let translation = without_limits(sheet);
-    within_limits(&translation).then_some(translation)
+    let is_sheet = within_limits(&translation) && depth(&sheet.lines) <= MOST_LEVELS;
+    is_sheet.then_some(translation)
 }
 
 pub fn within_limits(translation: &Translation) -> bool {
@@ -46,12 +47,15 @@ pub fn translate_compact(sheet: &Compact) -> Translation {
         first_temporary: LINK_WORDS + sheet.variables,
         temporaries: 0,
         orders: Vec::with_capacity(MOST_ORDERS),
+        open: Vec::new(),
         gotos: Vec::new(),
     };
-    let mut first_orders = Vec::with_capacity(sheet.instructions.len() + 1);
-    for instruction in &sheet.instructions {
-        first_orders.push(writer.place());
-        writer.instruction(instruction);
+    let mut first_orders = Vec::with_capacity(sheet.lines.len() + 1);
+    for line in &sheet.lines {
+        if line.is_instruction() {
+            first_orders.push(writer.place());
+        }
+        writer.line(line);
     }
     first_orders.push(writer.place());
     writer.put(STOP);
@@ -69,6 +73,8 @@ struct Writer<'s> {
     /// The most that were used so far.
     temporaries: u32,
     orders: Vec<Order>,
+    /// The branches and SKIPs over the parts that are open, the innermost last.
+    open: Vec<usize>,
     /// The places of orders whose address is still an instruction's number.
     gotos: Vec<usize>,
 }
@@ -117,8 +123,10 @@ impl Writer<'_> {
         self.orders.len() - 1
     }
 
-    /// Lets the jump at a place lead to the next order.
-    fn lead_here(&mut self, place: usize) {
+    /// "Branches and SKIPs lead to the order right after their part." Lets that of the innermost open
+    /// part lead to the next order.
+    fn close(&mut self) {
+        let place = self.open.pop().expect("an open part");
         self.orders[place].number = self.place();
     }
 
@@ -189,30 +197,26 @@ impl Writer<'_> {
         }
     }
 
-    /// "A comparison is the same with CMP, then the branch of the opposite relation past u. With
-    /// ELSE, a JMP over the second u closes the first."
-    fn instruction(&mut self, instruction: &Instruction<Place>) {
-        match instruction {
-            Instruction::Simple(simple) => self.simple(simple),
-            Instruction::If {
+    /// "A comparison is the same with CMP, then the branch of the opposite relation past u." "The jump
+    /// over an ELSE becomes a new order SKIP."
+    fn line(&mut self, line: &Line<Place>) {
+        match line {
+            Line::Simple(simple) => self.simple(simple),
+            Line::If {
                 relation,
                 left,
                 right,
-                then,
-                otherwise,
             } => {
                 self.binary(Name::Cmp, *left, *right, 0);
                 let branch = self.put_jump(opposite(*relation), 0);
-                self.simple(then);
-                if let Some(otherwise) = otherwise {
-                    let over = self.put_jump(Name::Jmp, 0);
-                    self.lead_here(branch);
-                    self.simple(otherwise);
-                    self.lead_here(over);
-                } else {
-                    self.lead_here(branch);
-                }
+                self.open.push(branch);
             }
+            Line::Else => {
+                let skip = self.put_jump(Name::Skip, 0);
+                self.close();
+                self.open.push(skip);
+            }
+            Line::Finish => self.close(),
         }
     }
 }

@@ -2,12 +2,14 @@
 //!
 //! The orders are carried out in place of values on expressions: the accumulator and the
 //! temporaries hold what the value was worked out from. An order that ends a simple instruction or
-//! a comparison gives it away. Orders that no sheet translates to may get through this, so the
-//! sheet that comes out is translated again and must give the same.
+//! a comparison gives it away. A branch tells where its part ends, and a SKIP before that place that
+//! there is a second. Orders that no sheet translates to may get through this, so the sheet that
+//! comes out is translated again and must give the same.
 
 use crate::compact::{Compact, Node, Place};
-use crate::object::{Kind, Name, Order, LINK_WORDS, MOST_NUMBER, MOST_TEMPORARIES};
-use crate::sheet::{Instruction, Operator, Relation, Sheet, Sign, Simple};
+use crate::object::{Kind, Name, Order, LINK_WORDS};
+use crate::object::{MOST_LEVELS, MOST_NUMBER, MOST_TEMPORARIES};
+use crate::sheet::{Line, Operator, Relation, Sheet, Sign, Simple};
 use crate::translate::{translate_compact, within_limits, Translation};
 
 /// The one sheet whose translation this is, if there is one.
@@ -34,26 +36,31 @@ fn candidate(variables: u32, orders: &[Order]) -> Option<Compact> {
         first_temporary: LINK_WORDS + variables,
         orders,
         place: 0,
+        open: Vec::with_capacity(MOST_LEVELS),
         sheet: Compact::new(variables),
     };
     reader.sheet.nodes.reserve(orders.len());
     let last = orders.len().checked_sub(1)?;
     // the number of the instruction whose first order it is, or 0
     let mut numbers = vec![0; orders.len()];
-    while reader.place < last {
-        numbers[reader.place] = reader.sheet.instructions.len() as u32 + 1;
-        let instruction = reader.instruction()?;
-        reader.sheet.instructions.push(instruction);
+    let mut next = 1;
+    loop {
+        reader.close()?;
+        *numbers.get_mut(reader.place)? = next;
+        if reader.place == last {
+            break;
+        }
+        reader.instruction()?;
+        next += 1;
     }
     let mut sheet = reader.sheet;
-    numbers[last] = sheet.instructions.len() as u32 + 1;
     lead(&mut sheet, &numbers)?;
-    Some(sheet)
+    reader.open.is_empty().then_some(sheet)
 }
 
 /// Puts instructions' numbers in place of the orders that the GOTOs lead to.
 fn lead(sheet: &mut Compact, numbers: &[u32]) -> Option<()> {
-    for target in sheet.instructions.iter_mut().flat_map(Instruction::targets) {
+    for target in sheet.lines.iter_mut().filter_map(Line::target) {
         *target = *numbers.get(*target as usize)?;
         if *target == 0 {
             return None;
@@ -75,18 +82,59 @@ enum Part {
     },
 }
 
+/// A part of an IF that is being read.
+struct Open {
+    /// The order after its last instruction.
+    end: usize,
+    /// That order is the SKIP over the second part.
+    has_else: bool,
+}
+
 struct Reader<'a> {
     first_temporary: u32,
     orders: &'a [Order],
     place: usize,
+    /// The innermost last.
+    open: Vec<Open>,
     /// As far as it has been read.
     sheet: Compact,
 }
 
 impl Reader<'_> {
-    fn instruction(&mut self) -> Option<Instruction<Place>> {
+    /// Closes the parts that end here, and goes on to a second part where one follows.
+    fn close(&mut self) -> Option<()> {
+        while let Some(part) = self.open.last().filter(|part| part.end == self.place) {
+            let has_else = part.has_else;
+            self.open.pop();
+            if !has_else {
+                self.sheet.lines.push(Line::Finish);
+                continue;
+            }
+            let past = self.orders[self.place].number as usize;
+            self.place += 1;
+            self.sheet.lines.push(Line::Else);
+            self.open(past, false)?;
+        }
+        Some(())
+    }
+
+    /// Opens a part that begins here. "A group with no instruction ... is refusal 7", so no part is
+    /// empty.
+    fn open(&mut self, end: usize, has_else: bool) -> Option<()> {
+        if end <= self.place || self.open.len() == MOST_LEVELS {
+            return None;
+        }
+        self.open.push(Open { end, has_else });
+        Some(())
+    }
+
+    /// Reads a simple instruction, or the comparison and the branch of an IF.
+    fn instruction(&mut self) -> Option<()> {
         let (relation, left, right, past) = match self.part()? {
-            Part::Simple(simple) => return Some(Instruction::Simple(simple)),
+            Part::Simple(simple) => {
+                self.sheet.lines.push(Line::Simple(simple));
+                return Some(());
+            }
             Part::Comparison {
                 relation,
                 left,
@@ -94,29 +142,15 @@ impl Reader<'_> {
                 past,
             } => (relation, left, right, past),
         };
-        let then = self.simple()?;
-        // a JMP that the branch does not pass is an instruction of its own
-        let has_else = past == self.place + 1;
-        let otherwise = if has_else {
-            self.place = past;
-            Some(self.simple()?)
-        } else {
-            None
-        };
-        Some(Instruction::If {
+        self.sheet.lines.push(Line::If {
             relation,
             left,
             right,
-            then,
-            otherwise,
-        })
-    }
-
-    fn simple(&mut self) -> Option<Simple<Place>> {
-        match self.part()? {
-            Part::Simple(simple) => Some(simple),
-            Part::Comparison { .. } => None,
-        }
+        });
+        // a second part is never empty, so a SKIP before the branch's target is that of this IF
+        let before = self.orders.get(past.checked_sub(1)?)?;
+        let has_else = before.name == Name::Skip;
+        self.open(past - usize::from(has_else), has_else)
     }
 
     /// Carries out orders up to the one that ends a simple instruction or a comparison.
@@ -142,7 +176,7 @@ impl Reader<'_> {
                     let right = self.operand(order, &mut held)?;
                     held.compared = Some((held.accumulator.take()?, right));
                 }
-                Name::Stop => return None,
+                Name::Skip | Name::Stop => return None,
                 name => {
                     if let Some(relation) = relation_of(name) {
                         let (left, right) = held.compared?;

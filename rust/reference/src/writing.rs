@@ -90,7 +90,7 @@ impl Making {
 /// A sheet of a few orders, and the tokens of a program for it.
 pub fn small_program(random: &mut Random) -> (Sheet, program::Statements) {
     loop {
-        let orders = random.pick(&[1, 3, 5, 8, 12, 20, 30, 40]);
+        let orders = random.pick(&[1, 3, 5, 8, 12, 20, 30, 40, 90]);
         let mut sheet = Plan::random(random).sheet(random, orders);
         characters::put(random, &mut sheet);
         if let Some(statements) = program::write(random, &sheet) {

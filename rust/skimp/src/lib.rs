@@ -47,11 +47,11 @@ pub const OBJECT_MOST: usize = 18_469;
 pub const SHEET_MOST: usize = 32_768;
 
 /// A stack of so many bytes is enough for a call, as measured on its worst inputs, with a tenth more.
-pub const COMPILE_STACK_BYTES: usize = 209 * 1024;
-pub const READ_BACK_STACK_BYTES: usize = 360 * 1024;
-pub const RUN_STACK_BYTES: usize = 7 * 1024;
+pub const COMPILE_STACK_BYTES: usize = 182 * 1024;
+pub const READ_BACK_STACK_BYTES: usize = 54 * 1024;
+pub const RUN_STACK_BYTES: usize = 10 * 1024;
 /// A stack of so many bytes is enough for every call.
-pub const STACK_BYTES: usize = READ_BACK_STACK_BYTES;
+pub const STACK_BYTES: usize = COMPILE_STACK_BYTES;
 
 /// What a call replies: document 01's number with the length of the text, with the steps, or with
 /// the place of a refusal.

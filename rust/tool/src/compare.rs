@@ -18,10 +18,10 @@ pub fn perform(source: &Place, object: &Place) -> Result<Outcome, Failure> {
     }
     let ours = read_back(&source.to_string(), &ours, None)?;
     let theirs = read_back(&object.to_string(), &theirs, None)?;
-    let (left, right) = (lines(&ours), lines(&theirs));
-    let rows = rows(&left, &right);
+    let (left, right) = (Side::of(&ours), Side::of(&theirs));
+    let rows = rows(&left.lines, &right.lines);
     let mut text = format!("{object} is not the object of {source}\n\n");
-    let width = left.iter().map(String::len).max().unwrap_or(0);
+    let width = left.lines.iter().map(String::len).max().unwrap_or(0);
     let width = width.max(source.to_string().len()).min(MOST_WIDTH);
     let head = [source.to_string(), object.to_string()];
     show(["", ""], [&head[0], &head[1]], ' ', width, &mut text);
@@ -48,7 +48,35 @@ fn lines(sheet: &[u8]) -> Vec<String> {
     text.lines().map(str::to_string).collect()
 }
 
-/// Lines of the two sheets that stand side by side, by their numbers.
+/// The number of the instruction on each line of a sheet, or nothing where there is none: on the first
+/// line, and on the lines that part groups.
+fn numbers(lines: &[String]) -> Vec<String> {
+    let mut count = 0;
+    let number = |(place, line): (usize, &String)| {
+        if place == 0 || ["START", "ELSE", "FINISH"].contains(&line.as_str()) {
+            return String::new();
+        }
+        count += 1;
+        count.to_string()
+    };
+    lines.iter().enumerate().map(number).collect()
+}
+
+/// A sheet to be shown.
+struct Side {
+    lines: Vec<String>,
+    numbers: Vec<String>,
+}
+
+impl Side {
+    fn of(sheet: &[u8]) -> Side {
+        let lines = lines(sheet);
+        let numbers = numbers(&lines);
+        Side { lines, numbers }
+    }
+}
+
+/// Lines of the two sheets that stand side by side, by their places.
 struct Row {
     left: Option<usize>,
     right: Option<usize>,
@@ -65,26 +93,11 @@ impl Row {
         }
     }
 
-    fn show(&self, left: &[String], right: &[String], width: usize, text: &mut String) {
-        // the first line of a sheet counts its instructions, the others are these
-        let number = |line: Option<usize>| match line {
-            None | Some(0) => String::new(),
-            Some(line) => line.to_string(),
-        };
-        let numbers = [number(self.left), number(self.right)];
-        let line = |sheet: &[String], line: Option<usize>| match line {
-            None => String::new(),
-            Some(line) => sheet[line].clone(),
-        };
-        let lines = [line(left, self.left), line(right, self.right)];
-        let (numbers, lines) = (numbers.each_ref(), lines.each_ref());
-        show(
-            numbers.map(|it| &**it),
-            lines.map(|it| &**it),
-            self.mark(),
-            width,
-            text,
-        );
+    fn show(&self, left: &Side, right: &Side, width: usize, text: &mut String) {
+        let places = [(left, self.left), (right, self.right)];
+        let numbers = places.map(|(side, place)| place.map_or("", |place| &side.numbers[place]));
+        let lines = places.map(|(side, place)| place.map_or("", |place| &side.lines[place]));
+        show(numbers, lines, self.mark(), width, text);
     }
 }
 

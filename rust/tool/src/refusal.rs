@@ -18,8 +18,11 @@ fn words(number: u32) -> &'static str {
         8 => "name unknown, declared twice, or SEND misused",
         9 => "label 0 or over 9999, set twice, or never set",
         10 => "no %ENDOFPROGRAM",
-        11 => "over 64 variables, 64 set labels, 32 temporaries, or 1,024 orders with STOP",
+        11 => {
+            "over 64 variables, 64 set labels, 16 levels, 32 temporaries, or 1,024 orders with STOP"
+        }
         12 => "object buffer too short, all else well",
+        13 => "group left open, or %FINISH without one",
         21 => "header not of the form or over a limit",
         22 => "not as many good lines as the header says",
         23 => "word outside the variables and temporaries",
@@ -44,7 +47,7 @@ pub fn of_source(name: &str, source: &[u8], refusal: Refusal) -> String {
             &format!("statement {place}, the last"),
             refusal,
         ),
-        3..=9 | 11 => of_statement(name, source, &format!("statement {place}"), refusal),
+        3..=9 | 11 | 13 => of_statement(name, source, &format!("statement {place}"), refusal),
         _ => message(name, None, "", refusal, &[]),
     }
 }

@@ -9,16 +9,16 @@ use Rattle.call_run.proofs.run_orders.Statement.{statement}
 use Rattle.call_run.proofs.run_orders.Tie as tie
 
 slice-aggregate-run-with : tie.Need-slice-aggregate-run-with
-slice-aggregate-run-with c = sym (length-take-le _ _ (c .before .before .before .before .before .before .before .before .before .pre))
+slice-aggregate-run-with c = sym (length-take-le _ _ (c .before .before .before .before .before .before .before .before .pre))
 
 run-with-requires : tie.Need-run-with-requires
 run-with-requires c κs =
-    let st = c .before .before .before .before .before .before .before .before .before .before .before in
+    let st = c .before .before .before .before .before .before .before .before .before .before in
     part-fits _ _ _ _ (replicate 98 0) refl (st .pre) (sym (c .before .before .before .before .state-fits .ensures) ∙ c .before .before .before .if1 .taken)
 
 returns : tie.Need-returns
 returns c =
-    let st = c .before .before .before .before .before .before .before .before .before .before .before .before .before .before .before .before .before in
+    let st = c .before .before .before .before .before .before .before .before .before .before .before .before .before .before .before .before in
     c .before .before .before .before .before .run-with .ensures
     ∙ fitting-call _ _ _ _ _ _ _ (st .pre) (sym (c .before .before .before .before .before .before .before .before .before .before .state-fits .ensures) ∙ c .before .before .before .before .before .before .before .before .before .if1 .taken)
 

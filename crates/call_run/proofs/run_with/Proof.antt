@@ -10,7 +10,7 @@ returns c =
     let q = g .before .before .before .before .before .before .before in
     let i = q .before .before .before in
     let l = i .before .before .before .before in
-    let st = l .before .before .before .before .before .before .before .before in
+    let st = l .before .before .before .before .before .before .before in
     rw (c .reply .ensures, w .store-words .ensures, g .store-registers .ensures)
     (left-call _ _ _ _ _ _ _ _ _ _ _ (l .load-words .ensures) (i .registers .ensures) (q .run .ensures) (st .pre .1))
 

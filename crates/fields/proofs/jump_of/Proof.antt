@@ -3,8 +3,8 @@ use borrow.Author.Needs.{needs}
 use Rattle.fields.proofs.jump_of.Statement.{statement}
 use Rattle.fields.proofs.jump_of.Tie as tie
 
-returns-11 : tie.Need-returns-11
-returns-11 c = rw (c .before .f .given .1) refl
+returns-13 : tie.Need-returns-13
+returns-13 c = rw (c .before .f .given .1) refl
 
 pub jump-of-spec : {M : Type 1} → statement M
 jump-of-spec =
@@ -31,4 +31,8 @@ jump-of-spec =
     (λ c. search needs)
     (λ c. search needs)
     (λ c. search needs)
-    returns-11)
+    (λ c. search needs)
+    (λ c. search needs)
+    (λ c. search needs)
+    (λ c. search needs)
+    returns-13)

@@ -3,16 +3,17 @@ use mathlib.Core.Path.{_≡_, refl, _∙_}
 use native.Mathlib.Omega.{arith}
 use lib.ListN.{length}
 use Rattle.front_end.specs.Internal.{Going}
-use Rattle.front_end.proofs.Statements.{starting, few-counts, none-left, next-cut, is-refused, is-given, never-unfit, is-further, moved-to, few-statements}
+use Rattle.front_end_forms.proofs.Placing.{counts-few}
+use Rattle.front_end.proofs.Statements.{starting, none-left, next-cut, is-refused, is-given, never-unfit, is-further, moved-to, few-statements}
 use borrow.Author.Needs.{needs}
 use Rattle.front_end.proofs.read_statements.Statement.{statement}
 use Rattle.front_end.proofs.read_statements.Tie as tie
 
 abbrev Inv-loop : tie.InvT-loop
-Inv-loop source names₀ labels₀ kinds₀ values₀ at₀ k₀ p₀ names labels kinds values at k p = (length names ≡ length names₀) × (length labels ≡ length labels₀) × (length kinds ≡ length kinds₀) × (length values ≡ length values₀) × Going source at k p names labels kinds values
+Inv-loop source names₀ labels₀ groups₀ fields₀ at₀ k₀ p₀ names labels groups fields at k p = (length names ≡ length names₀) × (length labels ≡ length labels₀) × (length groups ≡ length groups₀) × (length fields ≡ length fields₀) × Going source at k p names labels groups fields
 
 abbrev μ-loop : tie.MeasureT-loop
-μ-loop source names₀ labels₀ kinds₀ values₀ at₀ k₀ p₀ names labels kinds values at k p = length source + 1 - at
+μ-loop source names₀ labels₀ groups₀ fields₀ at₀ k₀ p₀ names labels groups fields at k p = length source + 1 - at
 
 loop-holds : tie.Need-loop-holds Inv-loop μ-loop
 loop-holds c = (refl, refl, refl, refl, rw (c .nothing-read .ensures) (starting (c .before .before .before .before .before .before .pre)))
@@ -30,7 +31,7 @@ add-k : tie.Need-add-k Inv-loop μ-loop
 add-k c = let h = few-statements (c .before .before .before .before .before .loop .inv .4) (c .before .before .before .before .before .before .before .before .before .before .before .before .pre .few-bytes) in search needs
 
 statement-requires : tie.Need-statement-requires Inv-loop μ-loop
-statement-requires c κs = few-counts (c .before .before .before .before .before .before .before .before .before .loop .inv .4 .holds)
+statement-requires c κs = counts-few (c .before .before .before .before .before .before .before .before .before .loop .inv .4 .holds)
 
 loop-less : tie.Need-loop-less Inv-loop μ-loop
 loop-less c =
@@ -64,7 +65,7 @@ returns-3 c =
     is-refused g (next .result) (next .ensures .0) _ z one _ _ (c .before .n2 .given .1)
 
 cast-t29 : tie.Need-cast-t29 Inv-loop μ-loop
-cast-t29 c = let h = few-counts (c .before .before .before .before .before .before .before .before .before .before .before .before .before .before .before .before .before .before .before .before .before .before .loop .inv .4 .holds) .1 in record { fits = omega (arith, h) }
+cast-t29 c = let h = counts-few (c .before .before .before .before .before .before .before .before .before .before .before .before .before .before .before .before .before .before .before .before .before .before .loop .inv .4 .holds) .few-fields in record { fits = omega (arith, h) }
 
 returns-4 : tie.Need-returns-4 Inv-loop μ-loop
 returns-4 c =

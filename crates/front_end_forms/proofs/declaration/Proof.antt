@@ -1,23 +1,22 @@
-use mathlib.Core.Path.{_∙_}
-use Rattle.front_end_forms.proofs.Steps.{comes-refused, declare-elsewhere, comes-twice, comes-many, comes-declared, declared-here, declared-fits}
+use Rattle.front_end_forms.proofs.Steps.{declared-elsewhere, comes-twice, declared-fits, comes-many, comes-declared}
 use borrow.Author.Needs.{needs}
 use Rattle.front_end_forms.proofs.declaration.Statement.{statement}
 use Rattle.front_end_forms.proofs.declaration.Tie as tie
 
 returns : tie.Need-returns
-returns c = let a = c .before .before .before .before .before .before .args in λ q ls ks vs h few. comes-refused 7 (a .k) (declare-elsewhere q (a .k) _ (q .part) (λ z. c .if1 .taken (h .parted ∙ z)))
+returns c = λ q ls gs fs h few. declared-elsewhere h (c .before .before .before .before .before .before .args .k) _ (c .if1 .taken) _
 
 returns-2 : tie.Need-returns-2
-returns-2 c = let told = c .before .before .before .before .before .before .declare .ensures in λ q ls ks vs h few. comes-many h (c .before .before .before .before .before .before .before .before .before .before .before .before .before .before .args .k) _ (c .before .before .before .before .before .before .before .before .if1 .left) (declared-here h _ (c .before .before .before .before .before .before .declare .result) _ few (told .0) (told .1)) _ (c .before .before .v .given .1) (c .if2 .taken)
+returns-2 c = λ q ls gs fs h few. comes-many h (c .before .before .before .before .before .before .before .before .before .before .before .before .before .before .args .k) _ (c .before .before .before .before .before .before .before .before .if1 .left) few _ _ (c .before .before .before .before .before .before .declare .ensures .0) (c .before .before .before .before .before .before .declare .ensures .1) _ (c .before .before .v .given .1) (c .if2 .taken)
 
 returns-3 : tie.Need-returns-3
-returns-3 c = let told = c .before .before .before .before .before .before .declare .ensures in λ q ls ks vs h few. comes-declared h (c .before .before .before .before .before .before .before .before .before .before .before .before .before .before .args .k) _ (c .before .before .before .before .before .before .before .before .if1 .left) (declared-here h _ (c .before .before .before .before .before .before .declare .result) _ few (told .0) (told .1)) _ (c .before .before .v .given .1) (c .if2 .left)
+returns-3 c = λ q ls gs fs h few. comes-declared h (c .before .before .before .before .before .before .before .before .before .before .before .before .before .before .args .k) _ (c .before .before .before .before .before .before .before .before .if1 .left) few _ _ (c .before .before .before .before .before .before .declare .ensures .0) (c .before .before .before .before .before .before .declare .ensures .1) _ (c .before .before .v .given .1) (c .if2 .left)
 
 returns-4 : tie.Need-returns-4
-returns-4 c = let told = c .before .before .before .before .declare .ensures in λ q ls ks vs h few. comes-twice h (c .before .before .before .before .before .before .before .before .before .before .before .before .args .k) _ (c .before .before .before .before .before .before .if1 .left) (declared-here h _ (c .before .before .before .before .declare .result) _ few (told .0) (told .1)) (c .enum-told .given .1)
+returns-4 c = λ q ls gs fs h few. comes-twice h (c .before .before .before .before .before .before .before .before .before .before .before .before .args .k) _ (c .before .before .before .before .before .before .if1 .left) few _ _ (c .before .before .before .before .declare .ensures .0) (c .before .before .before .before .declare .ensures .1) (c .enum-told .given .1)
 
 returns-5 : tie.Need-returns-5
-returns-5 c = let told = c .before .before .before .before .declare .ensures in λ q ls ks vs h few. declared-fits h (c .before .before .before .before .before .before .before .before .before .before .before .before .args .k) _ (c .before .before .before .before .before .before .if1 .left) (declared-here h _ (c .before .before .before .before .declare .result) _ few (told .0) (told .1)) (c .enum-told2 .given .1)
+returns-5 c = λ q ls gs fs h few. declared-fits h (c .before .before .before .before .before .before .before .before .before .before .before .before .args .k) _ (c .before .before .before .before .before .before .if1 .left) few _ _ (c .before .before .before .before .declare .ensures .0) (c .before .before .before .before .declare .ensures .1) (c .enum-told2 .given .1)
 
 pub declaration-spec : {M : Type 1} → statement M
 declaration-spec =

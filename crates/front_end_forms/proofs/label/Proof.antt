@@ -1,34 +1,23 @@
-use mathlib.Core.Path.{refl}
-use Rattle.front_end_forms.proofs.Parts.{labels-early, labels-late}
-use Rattle.front_end_forms.proofs.Steps.{comes-unset, comes-over, comes-labelled, set-here, labels-fit}
+use Rattle.front_end_forms.proofs.Stages.{labels-behind, early, late}
+use Rattle.front_end_forms.proofs.Labelling.{labels-same, comes-unset, labels-fit, comes-over, comes-labelled}
 use borrow.Author.Needs.{needs}
 use Rattle.front_end_forms.proofs.label.Statement.{statement}
 use Rattle.front_end_forms.proofs.label.Tie as tie
 
 returns : tie.Need-returns
-returns c = (tt, λ q ns ks vs xs h few. labels-early h _ xs (c .if1 .taken) _)
+returns c = (tt, λ q ns gs fs xs h few. early (labels-behind q (c .before .before .before .before .before .args .k) xs _) h (c .if1 .taken))
 
 returns-2 : tie.Need-returns-2
-returns-2 c =
-    let told = c .before .before .before .before .before .before .set-labels .ensures in
-    (tt, λ q ns ks vs xs h few. labels-late h (c .before .before .before .before .before .before .before .before .before .before .before .before .before .before .args .k) xs (c .before .before .before .before .before .before .before .before .before .if1 .left) _ (comes-over h (c .before .before .before .before .before .before .before .before .before .before .before .before .before .before .args .k) _ (set-here h _ (c .before .before .before .before .before .before .set-labels .result) _ few (c .before .before .before .before .before .before .before .before .before .before .before .before .before .before .pre) (told .0) (told .1)) _ (c .before .before .c .given .1) (c .if2 .taken)))
+returns-2 c = (tt, λ q ns gs fs xs h few. late (labels-behind q (c .before .before .before .before .before .before .before .before .before .before .before .before .before .before .args .k) xs _) h (c .before .before .before .before .before .before .before .before .before .if1 .left) (comes-over h (c .before .before .before .before .before .before .before .before .before .before .before .before .before .before .pre) (c .before .before .before .before .before .before .before .before .before .before .before .before .before .before .args .k) _ few _ _ (c .before .before .before .before .before .before .set-labels .ensures) _ (c .before .before .c .given .1) (c .if2 .taken)))
 
 returns-3 : tie.Need-returns-3
-returns-3 c =
-    let told = c .before .before .before .before .before .before .set-labels .ensures in (
-      record { instructions-same = refl; fields-same = refl; orders-same = refl },
-      λ q ns ks vs xs h few. labels-late h (c .before .before .before .before .before .before .before .before .before .before .before .before .before .before .args .k) xs (c .before .before .before .before .before .before .before .before .before .if1 .left) _ (comes-labelled h (c .before .before .before .before .before .before .before .before .before .before .before .before .before .before .args .k) _ (set-here h _ (c .before .before .before .before .before .before .set-labels .result) _ few (c .before .before .before .before .before .before .before .before .before .before .before .before .before .before .pre) (told .0) (told .1)) _ (c .before .before .c .given .1) (c .if2 .left)),
-    )
+returns-3 c = (labels-same _ _, λ q ns gs fs xs h few. late (labels-behind q (c .before .before .before .before .before .before .before .before .before .before .before .before .before .before .args .k) xs _) h (c .before .before .before .before .before .before .before .before .before .if1 .left) (comes-labelled h (c .before .before .before .before .before .before .before .before .before .before .before .before .before .before .pre) (c .before .before .before .before .before .before .before .before .before .before .before .before .before .before .args .k) _ few _ _ (c .before .before .before .before .before .before .set-labels .ensures) _ (c .before .before .c .given .1) (c .if2 .left)))
 
 returns-4 : tie.Need-returns-4
-returns-4 c =
-    let told = c .before .before .before .before .set-labels .ensures in
-    (tt, λ q ns ks vs xs h few. labels-late h (c .before .before .before .before .before .before .before .before .before .before .before .before .args .k) xs (c .before .before .before .before .before .before .before .if1 .left) _ (comes-unset h (c .before .before .before .before .before .before .before .before .before .before .before .before .args .k) _ (set-here h _ (c .before .before .before .before .set-labels .result) _ few (c .before .before .before .before .before .before .before .before .before .before .before .before .pre) (told .0) (told .1)) (c .enum-told .given .1)))
+returns-4 c = (tt, λ q ns gs fs xs h few. late (labels-behind q (c .before .before .before .before .before .before .before .before .before .before .before .before .args .k) xs _) h (c .before .before .before .before .before .before .before .if1 .left) (comes-unset h (c .before .before .before .before .before .before .before .before .before .before .before .before .pre) (c .before .before .before .before .before .before .before .before .before .before .before .before .args .k) _ few _ _ (c .before .before .before .before .set-labels .ensures) (c .enum-told .given .1)))
 
 returns-5 : tie.Need-returns-5
-returns-5 c =
-    let told = c .before .before .before .before .set-labels .ensures in
-    (tt, λ q ns ks vs xs h few. labels-fit h (c .before .before .before .before .before .before .before .before .before .before .before .before .args .k) _ (set-here h _ (c .before .before .before .before .set-labels .result) _ few (c .before .before .before .before .before .before .before .before .before .before .before .before .pre) (told .0) (told .1)) (c .enum-told2 .given .1))
+returns-5 c = (tt, λ q ns gs fs xs h few. labels-fit h (c .before .before .before .before .before .before .before .before .before .before .before .before .pre) (c .before .before .before .before .before .before .before .before .before .before .before .before .args .k) _ few _ _ (c .before .before .before .before .set-labels .ensures) (c .enum-told2 .given .1))
 
 pub label-spec : {M : Type 1} → statement M
 label-spec =

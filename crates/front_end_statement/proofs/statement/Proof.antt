@@ -4,6 +4,12 @@ use Rattle.front_end_statement.proofs.Forms.{few-told, short-tokens, sh
 use borrow.Author.Needs.{needs}
 use Rattle.front_end_statement.proofs.statement.Statement.{statement}
 use Rattle.front_end_statement.proofs.statement.Tie as tie
+use Rattle.front_end_statement.proofs.statement.Reads as reads
+use Rattle.front_end_statement.proofs.statement.Lts as lts
+use Rattle.base.proofs.part.Reads as part-reads
+use Rattle.front_end_statement.proofs.on_tokens.Reads as on-tokens-reads
+use Rattle.tokens.proofs.tokens.Reads as tokens-reads
+use borrow.Author.Needs.{needs}
 
 on-tokens-requires : tie.Need-on-tokens-requires
 on-tokens-requires c κs =
@@ -15,9 +21,10 @@ returns : tie.Need-returns
 returns c =
     let a = c .before .before .before .before .before .before .before .before .before .before .before .before .before .before .before .before .before .before .before .before .before .before .before .before .before .before .before .before .before .before .before .args in
     let tokens = c .before .before .before .before .before .before .before .before .before .before .before .before .before .before .before .before .before .before .before .before .before .before .before .before .tokens in
+    let z = c .before .before .before .before .before .before .before .before .before .before .before .before .before .before .before .before .before .before .before .before .n .given .1 in
     record {
-      short = λ few q h small. by-cells (a .t1) (tokens .result) _ _ _ _ (tokens .ensures .0) few (omega arith) (omega arith) q (a .k) _ (c .before .before .before .before .before .before .before .before .before .before .before .before .before .before .before .before .before .before .before .before .n .given .1) (rw (← c .before .before .before .before .before .before .before .before .before .before .before .before .before .before .before .part .ensures) (c .before .before .before .before .before .before .before .before .on-tokens .ensures q h small));
-      long = λ many. let few = short-tokens (a .t1) (tokens .result) _ _ _ _ (tokens .ensures .0) _ (c .before .before .before .before .before .before .before .before .before .before .before .before .before .before .before .before .before .before .before .before .n .given .1) in absurd (omega (arith, many, few));
+      short = λ few q h small. by-cells (a .t1) (tokens .result) _ _ _ _ (tokens .ensures .0) few (omega arith) (omega arith) q (a .k) _ z (rw (← c .before .before .before .before .before .before .before .before .before .before .before .before .before .before .before .part .ensures) (c .before .before .before .before .before .before .before .before .on-tokens .ensures q h small));
+      long = λ many. let few = short-tokens (a .t1) (tokens .result) _ _ _ _ (tokens .ensures .0) _ z in absurd (omega (arith, many, few));
     }
 
 returns-2 : tie.Need-returns-2

@@ -10,15 +10,15 @@ use Rattle.grammar_lead.proofs.open.Tie as tie
 
 signed-requires : tie.Need-signed-requires
 signed-requires c κs =
-    let ready = c .before .before .before .before .before .before .before .before .before .pre in
-    let h = subst (leadInside _ _) (c .before .before .enum-told2 .given .1) (c .before .before .before .before .lead-at .ensures .1) in
-    (omega (arith, h, ready), ready .fewer, record { kinds-room = omega (arith, h, ready); values-room = omega (arith, h, ready) })
+    let ready = c .before .before .before .before .before .before .before .pre in
+    let h = subst (leadInside _ _) (c .before .enum-told2 .given .1) (c .before .before .before .lead-at .ensures .1) in
+    (omega (arith, h, ready), ready .fewer, omega (arith, h, ready))
 
 signed-requires-2 : tie.Need-signed-requires-2
 signed-requires-2 c κs =
-    let ready = c .before .before .before .before .before .before .before .before .before .pre in
-    let h = subst (leadInside _ _) (c .before .before .enum-told3 .given .1) (c .before .before .before .before .lead-at .ensures .1) in
-    (omega (arith, h, ready), ready .fewer, record { kinds-room = omega (arith, h, ready); values-room = omega (arith, h, ready) })
+    let ready = c .before .before .before .before .before .before .before .pre in
+    let h = subst (leadInside _ _) (c .before .enum-told3 .given .1) (c .before .before .before .lead-at .ensures .1) in
+    (omega (arith, h, ready), ready .fewer, omega (arith, h, ready))
 
 returns : tie.Need-returns
 returns c =
@@ -38,8 +38,8 @@ returns c =
 
 returns-2 : tie.Need-returns-2
 returns-2 c =
-    let c₁ = c .before .before .before .before in
-    let c₂ = c₁ .before .before .before in
+    let c₁ = c .before .before in
+    let c₂ = c₁ .before .before in
     let c₃ = c₂ .before .before in
     let e = c₂ .enum-told2 .given .1 in
     let h = subst (leadInside _ _) e (c₃ .lead-at .ensures .1) in
@@ -58,8 +58,8 @@ returns-2 c =
 
 returns-3 : tie.Need-returns-3
 returns-3 c =
-    let c₁ = c .before .before .before .before in
-    let c₂ = c₁ .before .before .before in
+    let c₁ = c .before .before in
+    let c₂ = c₁ .before .before in
     let c₃ = c₂ .before .before in
     let e = c₂ .enum-told3 .given .1 in
     let h = subst (leadInside _ _) e (c₃ .lead-at .ensures .1) in
@@ -78,7 +78,7 @@ returns-3 c =
 
 returns-4 : tie.Need-returns-4
 returns-4 c =
-    let c₁ = c .before .before .before .before .before .before .before in
+    let c₁ = c .before .before .before .before .before .before in
     let e = c .enum-told4 .given .1 in
     record {
       lead = bare;
@@ -107,9 +107,7 @@ open-spec =
     (λ c. search needs)
     returns
     (λ c. search needs)
-    (λ c. search needs)
     returns-2
-    (λ c. search needs)
     (λ c. search needs)
     returns-3
     returns-4)

@@ -5,17 +5,7 @@ use Rattle.grammar_output.proofs.put.Statement.{statement}
 use Rattle.grammar_output.proofs.put.Tie as tie
 
 returns : tie.Need-returns
-returns c = rw (c .value-of .ensures, c .before .kind-of .ensures) (put-behind _ _ _ _ (omega arith) (omega arith))
+returns c = rw (c .packed .ensures .0) (put-behind _ _ _ (c .packed .ensures .1) (omega arith))
 
 pub put-spec : {M : Type 1} → statement M
-put-spec =
-    tie.close
-    (tie.spec
-    (λ c κs. search needs)
-    (λ c. search needs)
-    (λ c κs. search needs)
-    (λ c. search needs)
-    (λ c. search needs)
-    (λ c. search needs)
-    (λ c. search needs)
-    returns)
+put-spec = tie.close (tie.spec (λ c κs. search needs) (λ c. search needs) (λ c. search needs) (λ c. search needs) returns)

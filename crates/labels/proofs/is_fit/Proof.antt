@@ -1,6 +1,6 @@
 use Prim.Native.Nat.{_+_}
 use native.Mathlib.Omega.{arith}
-use Rattle.labels.proofs.LabelTurns.{other-size, too-many, whole-table}
+use Rattle.labels.proofs.Setting.{other-size, too-many, whole-table}
 use borrow.Author.Needs.{needs}
 use Rattle.labels.proofs.is_fit.Statement.{statement}
 use Rattle.labels.proofs.is_fit.Tie as tie
@@ -19,13 +19,4 @@ returns-4 c = let a = c .before .before .before .args in whole-table (a .size) (
 
 pub is-fit-spec : {M : Type 1} → statement M
 is-fit-spec =
-    tie.close
-    (tie.spec
-    (λ c. search needs)
-    returns
-    (λ c. search needs)
-    returns-2
-    (λ c. search needs)
-    (λ c. search needs)
-    returns-3
-    returns-4)
+    tie.close (tie.spec (λ c. search needs) returns (λ c. search needs) returns-2 (λ c. search needs) (λ c. search needs) returns-3 returns-4)

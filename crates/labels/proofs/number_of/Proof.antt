@@ -3,52 +3,39 @@ use mathlib.Core.Path.{_≡_, refl, sym, ap, _∙_}
 use native.Mathlib.Omega.{arith}
 use native.Mathlib.Nat.{sub-zero}
 use lib.ListN.{getD}
-use Rattle.source.specs.Program.{numberOf}
 use Rattle.base.specs.Places.{each}
-use Rattle.labels.specs.Memory.{labelIn, labelsOf}
-use Rattle.labels.proofs.LabelTurns.{number-here, number-turn, number-over}
-use borrow.Author.Needs.{needs}
+use Rattle.source.specs.Program.{numberAt}
+use Rattle.labels.specs.Memory.{spotIn, labelIn, labelsOf}
+use Rattle.labels.specs.Answers.{foundOf}
+use Rattle.labels.proofs.Finding.{found-here, found-turn, found-over}
 use Rattle.labels.proofs.number_of.Statement.{statement}
 use Rattle.labels.proofs.number_of.Tie as tie
+use borrow.Author.Needs.{needs}
 
 abbrev Inv-loop : tie.InvT-loop
-Inv-loop labels count l i₀ i = numberOf (each (λ j. labelIn (getD labels j 0)) i (count - i)) l ≡ numberOf (labelsOf count labels) l
+Inv-loop labels count next l i₀ i = foundOf next (each (λ j. labelIn next (getD labels j 0)) i (count - i)) l ≡ foundOf next (labelsOf next count labels) l
 
 abbrev μ-loop : tie.MeasureT-loop
-μ-loop labels count l i₀ i = count - i
+μ-loop labels count next l i₀ i = count - i
 
 loop-holds : tie.Need-loop-holds Inv-loop μ-loop
 loop-holds c = rw (sub-zero (c .before .args .count)) refl
 
-cast-word-at : tie.Need-cast-word-at Inv-loop μ-loop
-cast-word-at c = search needs
-
-word-at-requires : tie.Need-word-at-requires Inv-loop μ-loop
-word-at-requires c κs = search needs
-
 returns : tie.Need-returns Inv-loop μ-loop
 returns c =
-    let a = c .before .before .before .before .before .args in
-    let e = c .before .word-at .ensures in
-    let z : c .before .word-at .result / 2048 ≡ a .l = c .if1 .taken in
-    ap (λ n. n % 2048) e ∙ number-here (λ j. getD (a .labels .now) j 0) _ _ _ (c .before .before .loop-test .taken) (ap (λ n. n / 2048) (sym e) ∙ z) ∙ c .before .before .before .loop .inv
-
-add-i : tie.Need-add-i Inv-loop μ-loop
-add-i c = search needs
+    let e = c .before .before .word-at .ensures in
+    let z : c .before .before .word-at .result / 4096 ≡ c .before .before .before .before .before .before .args .l = c .before .if1 .taken in
+    found-here (λ j. getD (c .before .before .before .before .before .before .args .labels .now) j 0) _ _ _ _ (c .before .before .before .loop-test .taken) (ap (λ n. n / 4096) (sym e) ∙ z) _ (c .number-at .ensures ∙ ap (λ k. numberAt (c .before .before .before .before .before .before .args .next) (spotIn (c .before .before .before .before .before .before .args .next) (k % 4096))) e) ∙ c .before .before .before .before .loop .inv
 
 loop-less : tie.Need-loop-less Inv-loop μ-loop
 loop-less c = omega arith
 
 loop-again : tie.Need-loop-again Inv-loop μ-loop
 loop-again c =
-    let a = c .before .before .before .before .before .args in
-    let e = c .before .word-at .ensures in
-    number-turn (λ j. getD (a .labels .now) j 0) _ _ _ (c .before .before .loop-test .taken) (λ z. c .if1 .left (ap (λ n. n / 2048) e ∙ z)) ∙ c .before .before .before .loop .inv
+    found-turn (λ j. getD (c .before .before .before .before .before .args .labels .now) j 0) _ _ _ _ (c .before .before .loop-test .taken) (λ z. c .if1 .left (ap (λ n. n / 4096) (c .before .word-at .ensures) ∙ z)) ∙ c .before .before .before .loop .inv
 
 returns-2 : tie.Need-returns-2 Inv-loop μ-loop
-returns-2 c =
-    let a = c .before .before .before .args in
-    number-over (λ j. getD (a .labels .now) j 0) (a .count) (c .before .loop .i) (a .l) (c .loop-test .left) ∙ c .before .loop .inv
+returns-2 c = found-over (λ j. getD (c .before .before .before .args .labels .now) j 0) (c .before .before .before .args .next) (c .before .before .before .args .count) (c .before .loop .i) (c .before .before .before .args .l) (c .loop-test .left) ∙ c .before .loop .inv
 
 pub number-of-spec : {M : Type 1} → statement M
 number-of-spec =
@@ -57,10 +44,11 @@ number-of-spec =
     Inv-loop
     μ-loop
     loop-holds
-    cast-word-at
-    word-at-requires
+    (λ c. search needs)
+    (λ c κs. search needs)
+    (λ c κs. search needs)
     returns
-    add-i
+    (λ c. search needs)
     loop-less
     loop-again
     returns-2)

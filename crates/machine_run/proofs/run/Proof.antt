@@ -2,27 +2,24 @@ use borrow.Author.Needs.{needs}
 use Prim.Native.Nat.{_-_}
 use mathlib.Core.Path.{sym}
 use native.Mathlib.Omega.{arith}
-use Rattle.order.specs.Memory.{ordersOf}
+use Rattle.order.specs.Memory.{ordersIn}
 use Rattle.machine.proofs.Steps.{ended-stays}
 use Rattle.machine_run.proofs.Looping.{Loop, start, lengths-kept, again, stopped, broke-off, out-of-budget}
 use Rattle.machine_run.proofs.run.Statement.{statement}
 use Rattle.machine_run.proofs.run.Tie as tie
 
 abbrev Inv-loop : tie.InvT-loop
-Inv-loop numbers operands words₀ output₀ budget state₀ steps₀ words output state steps =
-    Loop (ordersOf numbers operands) budget state₀ words₀ output₀ steps state words output
+Inv-loop orders words₀ output₀ budget state₀ steps₀ words output state steps =
+    Loop (ordersIn orders) budget state₀ words₀ output₀ steps state words output
 
 abbrev μ-loop : tie.MeasureT-loop
-μ-loop numbers operands words₀ output₀ budget state₀ steps₀ words output state steps = budget - steps
+μ-loop orders words₀ output₀ budget state₀ steps₀ words output state steps = budget - steps
 
 returns : tie.Need-returns Inv-loop μ-loop
 returns c = sym (ended-stays _ _ _ (c .if1 .taken))
 
 loop-holds : tie.Need-loop-holds Inv-loop μ-loop
 loop-holds c = start _ _ _ _ _ (c .if1 .left)
-
-add-t17 : tie.Need-add-t17 Inv-loop μ-loop
-add-t17 c = omega arith
 
 same-length : tie.Need-same-length Inv-loop μ-loop
 same-length c =
@@ -92,7 +89,7 @@ run-spec =
     returns
     loop-holds
     (λ c κs. search needs)
-    add-t17
+    (λ c. omega arith)
     same-length
     same-length-2
     returns-2

@@ -1,5 +1,6 @@
 use borrow.Author.Needs.{needs}
 use mathlib.Core.Path.{_∙_}
+use native.Mathlib.Omega.{arith}
 use Rattle.machine_step.proofs.Orders.{step-carried}
 use Rattle.machine_step.proofs.step.Statement.{statement}
 use Rattle.machine_step.proofs.step.Tie as tie
@@ -8,20 +9,21 @@ returns : tie.Need-returns
 returns c =
     let carry = c .before .before .before .before in
     let fetch = carry .before .before .before .before in
-    let start = fetch .before .before .before .before .before in
+    let start = fetch .before .before .before .before in
     carry .carry-out .ensures
     ∙ step-carried
-    _ _ _ _ _ _ _ _
-    (fetch .fetch .ensures .0)
-    (fetch .fetch .ensures .1)
+    (start .args .orders .now) _ _ _ _ _
+    (fetch .fetch .ensures)
     (carry .before .before .before .wrapping-add-usize .ensures)
-    (start .good .0 .0)
+    (omega (arith, start .good .0))
 
 pub step-spec : {M : Type 1} → statement M
 step-spec =
     tie.close
     (tie.spec
     (λ c κs. search needs)
+    (λ c. search needs)
+    (λ c. search needs)
     (λ c κs. search needs)
     (λ c κs. search needs)
     (λ c. search needs)

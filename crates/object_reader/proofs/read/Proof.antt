@@ -20,25 +20,22 @@ add-read-lines-2 c =
 
 judged-requires : tie.Need-judged-requires
 judged-requires c κs =
-    let h = c .before .before .before .before .before .before .before .before in
+    let h = c .before .before .before .before .before in
     subst headerBounded (h .v .given .1) (h .before .before .header-at .ensures .1) .2
 
 returns : tie.Need-returns
 returns c =
-    let l = c .before .before .before .before .before in
-    let h = l .before .before .before .before in
+    let l = c .before .before .before in
+    let h = l .before .before .before in
     let r = reading-found _ _ _ (sym (h .before .before .header-at .ensures .0) ∙ ap (headerFound _) (h .v .given .1)) in (
       c .judged .ensures ∙ scan-judged _ _ _ _ _ _ (again-lines _ _ .most) (l .read-lines .ensures .0) ∙ ap verdictOf (sym (r .0)),
-      (
-        rw (r .1) (l .read-lines .ensures .1 .0),
-        rw (r .1) (l .read-lines .ensures .1 .1),
-      ),
+      rw (r .1) (l .read-lines .ensures .1),
     )
 
 returns-2 : tie.Need-returns-2
 returns-2 c =
     let r = reading-none _ (sym (c .before .before .header-at .ensures .0) ∙ ap (headerFound _) (c .enum-told .given .1)) in
-    (ap verdictOf (sym (r .0)), (rw (r .1) refl, rw (r .1) refl))
+    (ap verdictOf (sym (r .0)), rw (r .1) refl)
 
 pub read-spec : {M : Type 1} → statement M
 read-spec =
@@ -50,7 +47,6 @@ read-spec =
     add-read-lines-2
     (λ c. search needs)
     judged-requires
-    (λ c. search needs)
     (λ c. search needs)
     (λ c. search needs)
     returns

@@ -14,10 +14,15 @@ returns-6 c = rw (c .before .before .o3 .given .1) (c .address-trouble .ensures)
 returns-7 : tie.Need-returns-7
 returns-7 c = rw (c .before .before .o4 .given .1) (c .address-trouble2 .ensures)
 
+returns-8 : tie.Need-returns-8
+returns-8 c = rw (c .before .before .o5 .given .1) (c .address-trouble3 .ensures)
+
 pub trouble-of-spec : {M : Type 1} → statement M
 trouble-of-spec =
     tie.close
     (tie.spec
+    (λ c. search needs)
+    (λ c. search needs)
     (λ c. search needs)
     (λ c. search needs)
     (λ c. search needs)
@@ -38,5 +43,6 @@ trouble-of-spec =
     (λ c. search needs)
     returns-6
     returns-7
+    returns-8
     (λ c. search needs)
     (λ c. search needs))

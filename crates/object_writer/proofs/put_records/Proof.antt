@@ -4,36 +4,32 @@ use mathlib.Core.Path.{_≡_, refl, ap, _∙_}
 use native.Mathlib.Omega.{arith}
 use lib.ListN.{length}
 use Rattle.text.specs.Internal.{placed, putAll}
-use Rattle.order.specs.Memory.{ordersFrom}
+use Rattle.order.specs.Memory.{ordersIn}
 use Rattle.order.specs.Object.{recordsText}
-use Rattle.object_writer.proofs.Writing.{left-text, put-start, records-turn, records-over}
+use Rattle.object_writer.proofs.Writing.{left-text, records-turn, records-over}
 use Rattle.object_writer.proofs.put_records.Statement.{statement}
 use Rattle.object_writer.proofs.put_records.Tie as tie
 
 abbrev Inv-loop : tie.InvT-loop
-Inv-loop buffer₀ at numbers operands n j₀ i₀ buffer j i =
-    (putAll (left-text numbers operands n i) (placed j buffer) ≡ putAll (recordsText (ordersFrom 0 n numbers operands)) (placed at buffer₀))
-    × (length buffer ≡ length buffer₀)
+Inv-loop buffer₀ at orders j₀ i₀ buffer j i =
+    (putAll (left-text orders i) (placed j buffer) ≡ putAll (recordsText (ordersIn orders)) (placed at buffer₀)) × (length buffer ≡ length buffer₀)
 
 abbrev μ-loop : tie.MeasureT-loop
-μ-loop buffer₀ at numbers operands n j₀ i₀ buffer j i = n - i
+μ-loop buffer₀ at orders j₀ i₀ buffer j i = length orders - i
 
 loop-again : tie.Need-loop-again Inv-loop μ-loop
 loop-again c =
-    let l = c .before .before .before .before .before .before in (
-      ap (putAll _) (c .before .before .put-record .ensures)
-          ∙ records-turn _ _ _ _ _ _ _ (c .before .before .before .before .before .byte-at .ensures) (c .before .before .before .before .word-at .ensures) (l .loop-test .taken)
-          ∙ l .before .loop .inv .0,
-      c .before .before .put-record .kept .0 ∙ l .before .loop .inv .1,
+    let p = c .before .before in
+    let l = p .before .before .before .before in (
+      ap (putAll _) (p .put-record .ensures) ∙ records-turn _ _ _ _ (p .before .order-in .ensures) (l .loop-test .taken) ∙ l .before .loop .inv .0,
+      p .put-record .kept .0 ∙ l .before .loop .inv .1,
     )
 
 same-length : tie.Need-same-length Inv-loop μ-loop
 same-length c = c .before .loop .inv .1
 
 returns : tie.Need-returns Inv-loop μ-loop
-returns c =
-    let a = c .before .before .before .before .before .args in
-    records-over (a .numbers .now) (a .operands .now) _ _ _ (c .loop-test .left) ∙ c .before .loop .inv .0
+returns c = records-over _ _ _ (c .loop-test .left) ∙ c .before .loop .inv .0
 
 pub put-records-spec : {M : Type 1} → statement M
 put-records-spec =
@@ -41,9 +37,8 @@ put-records-spec =
     (tie.spec
     Inv-loop
     μ-loop
-    (λ c. (put-start _ _ _ _, refl))
+    (λ c. (refl, refl))
     (λ c. search needs)
-    (λ c κs. search needs)
     (λ c. search needs)
     (λ c κs. search needs)
     (λ c κs. search needs)

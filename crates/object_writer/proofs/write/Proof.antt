@@ -3,32 +3,41 @@ use mathlib.Core.Path.{ap, _∙_}
 use native.Mathlib.Omega.{arith}
 use Rattle.text.specs.Internal.{putAll}
 use Rattle.text.proofs.Writing.{write-short, write-whole}
-use Rattle.order.specs.Memory.{ordersFrom}
+use Rattle.order.specs.Memory.{ordersIn}
 use Rattle.order.specs.Object.{text}
 use Rattle.object_writer.proofs.Writing.{put-text}
 use Rattle.object_writer.proofs.write.Statement.{statement}
 use Rattle.object_writer.proofs.write.Tie as tie
 
 returns : tie.Need-returns
-returns c =
-    let a = c .before .before .before .before .before .args in
-    let all = text (a .v) (a .t) (ordersFrom 0 (a .n) (a .numbers .now) (a .operands .now)) in
-    write-short 12 all (a .buffer .now) _ (c .before .text-length .ensures) (omega (arith, c .if1 .taken))
+returns c = (λ few. absurd (omega (arith, few, c .if1 .taken)), λ few. absurd (omega (arith, few, c .if1 .taken)))
 
 returns-2 : tie.Need-returns-2
 returns-2 c =
+    let a = c .before .before .before .before .before .args in
+    let all = text (a .v) (a .t) (ordersIn (a .orders .now)) in
+    let e = write-short 12 all (a .buffer .now) _ (c .before .text-length .ensures) (omega (arith, c .if2 .taken)) in
+    (λ few. e .0, λ few. e .1)
+
+returns-3 : tie.Need-returns-3
+returns-3 c =
     let h = c .before .before .before .before .before .before in
     let l = h .before .before in
-    write-whole 12 _ _ _ (l .before .text-length .ensures) (omega (arith, l .if1 .left)) _ _
-    (c .before .before .put-records .ensures ∙ ap (putAll _) (h .put-header .ensures) ∙ put-text _ _ _ _ _ _)
+    let a = l .before .before .before .before .before .args in
+    let put = c .before .before .put-records .ensures ∙ ap (putAll _) (h .put-header .ensures) ∙ put-text (a .orders .now) _ _ _ in
+    let e = write-whole 12 _ _ _ (l .before .text-length .ensures) (omega (arith, l .if2 .left)) _ _ put in
+    (λ few. e .0, λ few. e .1)
 
 pub write-spec : {M : Type 1} → statement M
 write-spec =
     tie.close
     (tie.spec
-    (λ c κs. search needs)
+    (λ c. search needs)
     returns
+    (λ c κs. search needs)
+    returns-2
+    (λ c. search needs)
     (λ c κs. search needs)
     (λ c κs. search needs)
     (λ c. search needs)
-    returns-2)
+    returns-3)

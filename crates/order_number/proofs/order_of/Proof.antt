@@ -1,6 +1,5 @@
 use mathlib.Core.Path.{_∙_}
-use Rattle.order_number.proofs.Numbering.{order-plain, word-again, number-again}
-use Rattle.order.proofs.Numbers.{no-order}
+use Rattle.order_number.proofs.Numbering.{order-plain, word-again, number-again, skip-again, past-skip}
 use borrow.Author.Needs.{needs}
 use Rattle.order_number.proofs.order_of.Statement.{statement}
 use Rattle.order_number.proofs.order_of.Tie as tie
@@ -15,7 +14,10 @@ returns-3 : tie.Need-returns-3
 returns-3 c = rw (c .operation2 .ensures) (number-again _ _ (c .before .before .if2 .left) (c .before .if3 .taken))
 
 returns-4 : tie.Need-returns-4
-returns-4 c = no-order _ _ (c .if3 .left)
+returns-4 c = skip-again _ _ (c .if4 .taken)
+
+returns-5 : tie.Need-returns-5
+returns-5 c = past-skip _ _ (c .before .if3 .left) (c .if4 .left)
 
 pub order-of-spec : {M : Type 1} → statement M
 order-of-spec =
@@ -27,4 +29,5 @@ order-of-spec =
     returns-2
     (λ c. search needs)
     returns-3
-    returns-4)
+    returns-4
+    returns-5)

@@ -7,8 +7,8 @@ use Rattle.order_record.proofs.record_length.Tie as tie
 
 returns : tie.Need-returns
 returns c =
-    let h = c .before .before .before .heading-length .ensures in (
-      rw (h .0, c .decimal-length .ensures .0, c .before .operand-of .ensures, c .before .before .order-of .ensures) (sym (record-length _ _)),
+    let h = c .before .before .heading-length .ensures in (
+      rw (h .0, c .decimal-length .ensures .0, c .before .operand-of .ensures, c .before .before .before .number-of .ensures) (sym (record-length (c .before .before .before .before .args .o))),
       omega (arith, h .1, c .decimal-length .ensures .1),
     )
 
@@ -16,10 +16,10 @@ pub record-length-spec : {M : Type 1} → statement M
 record-length-spec =
     tie.close
     (tie.spec
-    (λ c. search needs)
-    (λ c. search needs)
-    (λ c. search needs)
-    (λ c. search needs)
+    (λ c κs. search needs)
+    (λ c κs. search needs)
+    (λ c κs. search needs)
+    (λ c κs. search needs)
     (λ c. search needs)
     (λ c. search needs)
     returns)

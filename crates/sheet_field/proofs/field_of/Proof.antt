@@ -1,5 +1,5 @@
 use mathlib.Core.Path.{_∙_}
-use Rattle.sheet_field.proofs.Numbering.{bare-again, binary-again, if-again, numbered-again, no-field}
+use Rattle.sheet_field.proofs.Numbering.{bare-again, binary-again, compare-again, numbered-again, no-field}
 use borrow.Author.Needs.{needs}
 use Rattle.sheet_field.proofs.field_of.Statement.{statement}
 use Rattle.sheet_field.proofs.field_of.Tie as tie
@@ -11,7 +11,7 @@ returns-2 : tie.Need-returns-2
 returns-2 c = rw (c .operator .ensures) (binary-again _ _ (c .before .before .if1 .left) (c .before .if2 .taken))
 
 returns-3 : tie.Need-returns-3
-returns-3 c = rw (c .relation .ensures) (if-again _ _ (c .before .before .if2 .left) (c .before .if3 .taken))
+returns-3 c = rw (c .relation .ensures) (compare-again _ _ (c .before .before .if2 .left) (c .before .if3 .taken))
 
 returns-4 : tie.Need-returns-4
 returns-4 c = c .numbered-field .ensures ∙ numbered-again _ _ (c .before .before .if3 .left) (c .before .if4 .taken)

@@ -3,11 +3,11 @@ use borrow.Author.Needs.{needs}
 use Rattle.sheet_field.proofs.kind_of.Statement.{statement}
 use Rattle.sheet_field.proofs.kind_of.Tie as tie
 
-returns-6 : tie.Need-returns-6
-returns-6 c = rw (c .before .before .f .given .1, c .operator-number .ensures .0) refl
+returns-8 : tie.Need-returns-8
+returns-8 c = rw (c .before .before .f .given .1, c .operator-number .ensures .0) refl
 
-returns-7 : tie.Need-returns-7
-returns-7 c = rw (c .before .before .f2 .given .1, c .relation-number .ensures .0) refl
+returns-9 : tie.Need-returns-9
+returns-9 c = rw (c .before .before .f2 .given .1, c .relation-number .ensures .0) refl
 
 pub kind-of-spec : {M : Type 1} → statement M
 kind-of-spec =
@@ -19,12 +19,12 @@ kind-of-spec =
     (λ c. search needs)
     (λ c. search needs)
     (λ c. search needs)
-    (λ c κs. search needs)
     (λ c. search needs)
     (λ c. search needs)
     (λ c κs. search needs)
     (λ c. search needs)
     (λ c. search needs)
+    (λ c κs. search needs)
     (λ c. search needs)
     (λ c. search needs)
     (λ c. search needs)
@@ -33,8 +33,12 @@ kind-of-spec =
     (λ c. search needs)
     (λ c. search needs)
     (λ c. search needs)
-    returns-6
-    returns-7
+    (λ c. search needs)
+    (λ c. search needs)
+    (λ c. search needs)
+    (λ c. search needs)
+    returns-8
+    returns-9
     (λ c. search needs)
     (λ c. search needs)
     (λ c. search needs)

@@ -9,8 +9,5 @@ returns c = search cases depth 16
 returns-2 : tie.Need-returns-2
 returns-2 c = search cases depth 16
 
-returns-3 : tie.Need-returns-3
-returns-3 c = search cases depth 16
-
 pub separator-of-spec : {M : Type 1} → statement M
-separator-of-spec = tie.close (tie.spec returns (λ c κs. search needs) returns-2 returns-3)
+separator-of-spec = tie.close (tie.spec (λ c κs. search needs) returns returns-2)

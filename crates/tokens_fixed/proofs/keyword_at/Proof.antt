@@ -2,7 +2,7 @@ use borrow.Author.Needs.{needs}
 use native.Mathlib.Omega.{arith}
 use Rattle.base.specs.Text.{bytes}
 use Rattle.source.specs.declared.Token.the-variants.{Mark}
-use Rattle.tokens_fixed.proofs.Keywords.{by-hit, by-miss, by-none, whole}
+use Rattle.tokens_fixed.proofs.Keywords.{by-hit, by-miss, whole}
 use Rattle.tokens_fixed.proofs.keyword_at.Statement.{statement}
 use Rattle.tokens_fixed.proofs.keyword_at.Tie as tie
 
@@ -10,8 +10,7 @@ returns : tie.Need-returns
 unfolding bytes
 returns c =
     let at-fixed-at = c .before .before .before in
-    whole _ _ _ (by-hit _ _ "endofprogram" (Mark 129) _ _ (omega arith) (omega arith)
-    (rw (c .before .q .given .1) at (at-fixed-at .fixed-at .ensures .0)))
+    whole _ _ _ (by-hit _ _ "endofprogram" (Mark 129) _ _ (omega arith) (omega arith) (rw (c .before .q .given .1) at (at-fixed-at .fixed-at .ensures .0)))
 
 returns-2 : tie.Need-returns-2
 unfolding bytes
@@ -32,7 +31,7 @@ returns-3 c =
     let at-fixed-at = at-enum-told .before .before in
     whole _ _ _ (by-miss _ _ "endofprogram" (Mark 129) _ _ (rw (at-enum-told .enum-told .given .1) at (at-fixed-at .fixed-at .ensures .0))
     (by-miss _ _ "integer" (Mark 130) _ _ (rw (at-enum-told2 .enum-told2 .given .1) at (at-fixed-at2 .fixed-at2 .ensures .0))
-    (by-hit _ _ "begin" (Mark 128) _ _ (omega arith) (omega arith) (rw (c .before .q3 .given .1) at (at-fixed-at3 .fixed-at3 .ensures .0)))))
+    (by-hit _ _ "finish" (Mark 136) _ _ (omega arith) (omega arith) (rw (c .before .q3 .given .1) at (at-fixed-at3 .fixed-at3 .ensures .0)))))
 
 returns-4 : tie.Need-returns-4
 unfolding bytes
@@ -46,14 +45,13 @@ returns-4 c =
     let at-fixed-at = at-enum-told .before .before in
     whole _ _ _ (by-miss _ _ "endofprogram" (Mark 129) _ _ (rw (at-enum-told .enum-told .given .1) at (at-fixed-at .fixed-at .ensures .0))
     (by-miss _ _ "integer" (Mark 130) _ _ (rw (at-enum-told2 .enum-told2 .given .1) at (at-fixed-at2 .fixed-at2 .ensures .0))
-    (by-miss _ _ "begin" (Mark 128) _ _ (rw (at-enum-told3 .enum-told3 .given .1) at (at-fixed-at3 .fixed-at3 .ensures .0))
-    (by-hit _ _ "then" (Mark 132) _ _ (omega arith) (omega arith) (rw (c .before .q4 .given .1) at (at-fixed-at4 .fixed-at4 .ensures .0))))))
+    (by-miss _ _ "finish" (Mark 136) _ _ (rw (at-enum-told3 .enum-told3 .given .1) at (at-fixed-at3 .fixed-at3 .ensures .0))
+    (by-hit _ _ "begin" (Mark 128) _ _ (omega arith) (omega arith) (rw (c .before .q4 .given .1) at (at-fixed-at4 .fixed-at4 .ensures .0))))))
 
 returns-5 : tie.Need-returns-5
 unfolding bytes
 returns-5 c =
-    let at-fixed-at5 = c .before .before .before in
-    let at-enum-told4 = at-fixed-at5 .before .before in
+    let at-enum-told4 = c .before in
     let at-fixed-at4 = at-enum-told4 .before .before in
     let at-enum-told3 = at-fixed-at4 .before .before in
     let at-fixed-at3 = at-enum-told3 .before .before in
@@ -63,50 +61,9 @@ returns-5 c =
     let at-fixed-at = at-enum-told .before .before in
     whole _ _ _ (by-miss _ _ "endofprogram" (Mark 129) _ _ (rw (at-enum-told .enum-told .given .1) at (at-fixed-at .fixed-at .ensures .0))
     (by-miss _ _ "integer" (Mark 130) _ _ (rw (at-enum-told2 .enum-told2 .given .1) at (at-fixed-at2 .fixed-at2 .ensures .0))
-    (by-miss _ _ "begin" (Mark 128) _ _ (rw (at-enum-told3 .enum-told3 .given .1) at (at-fixed-at3 .fixed-at3 .ensures .0))
-    (by-miss _ _ "then" (Mark 132) _ _ (rw (at-enum-told4 .enum-told4 .given .1) at (at-fixed-at4 .fixed-at4 .ensures .0))
-    (by-hit _ _ "else" (Mark 133) _ _ (omega arith) (omega arith) (rw (c .before .q5 .given .1) at (at-fixed-at5 .fixed-at5 .ensures .0)))))))
-
-returns-6 : tie.Need-returns-6
-unfolding bytes
-returns-6 c =
-    let at-fixed-at6 = c .before .before .before in
-    let at-enum-told5 = at-fixed-at6 .before .before in
-    let at-fixed-at5 = at-enum-told5 .before .before in
-    let at-enum-told4 = at-fixed-at5 .before .before in
-    let at-fixed-at4 = at-enum-told4 .before .before in
-    let at-enum-told3 = at-fixed-at4 .before .before in
-    let at-fixed-at3 = at-enum-told3 .before .before in
-    let at-enum-told2 = at-fixed-at3 .before .before in
-    let at-fixed-at2 = at-enum-told2 .before .before in
-    let at-enum-told = at-fixed-at2 .before .before in
-    let at-fixed-at = at-enum-told .before .before in
-    whole _ _ _ (by-miss _ _ "endofprogram" (Mark 129) _ _ (rw (at-enum-told .enum-told .given .1) at (at-fixed-at .fixed-at .ensures .0))
-    (by-miss _ _ "integer" (Mark 130) _ _ (rw (at-enum-told2 .enum-told2 .given .1) at (at-fixed-at2 .fixed-at2 .ensures .0))
-    (by-miss _ _ "begin" (Mark 128) _ _ (rw (at-enum-told3 .enum-told3 .given .1) at (at-fixed-at3 .fixed-at3 .ensures .0))
-    (by-miss _ _ "then" (Mark 132) _ _ (rw (at-enum-told4 .enum-told4 .given .1) at (at-fixed-at4 .fixed-at4 .ensures .0))
-    (by-miss _ _ "else" (Mark 133) _ _ (rw (at-enum-told5 .enum-told5 .given .1) at (at-fixed-at5 .fixed-at5 .ensures .0))
-    (by-hit _ _ "if" (Mark 131) _ _ (omega arith) (omega arith) (rw (c .before .q6 .given .1) at (at-fixed-at6 .fixed-at6 .ensures .0))))))))
-
-returns-7 : tie.Need-returns-7
-unfolding bytes
-returns-7 c =
-    let at-enum-told5 = c .before .before .before .before in
-    let at-fixed-at5 = at-enum-told5 .before .before in
-    let at-enum-told4 = at-fixed-at5 .before .before in
-    let at-fixed-at4 = at-enum-told4 .before .before in
-    let at-enum-told3 = at-fixed-at4 .before .before in
-    let at-fixed-at3 = at-enum-told3 .before .before in
-    let at-enum-told2 = at-fixed-at3 .before .before in
-    let at-fixed-at2 = at-enum-told2 .before .before in
-    let at-enum-told = at-fixed-at2 .before .before in
-    let at-fixed-at = at-enum-told .before .before in
-    whole _ _ _ (by-miss _ _ "endofprogram" (Mark 129) _ _ (rw (at-enum-told .enum-told .given .1) at (at-fixed-at .fixed-at .ensures .0))
-    (by-miss _ _ "integer" (Mark 130) _ _ (rw (at-enum-told2 .enum-told2 .given .1) at (at-fixed-at2 .fixed-at2 .ensures .0))
-    (by-miss _ _ "begin" (Mark 128) _ _ (rw (at-enum-told3 .enum-told3 .given .1) at (at-fixed-at3 .fixed-at3 .ensures .0))
-    (by-miss _ _ "then" (Mark 132) _ _ (rw (at-enum-told4 .enum-told4 .given .1) at (at-fixed-at4 .fixed-at4 .ensures .0))
-    (by-miss _ _ "else" (Mark 133) _ _ (rw (at-enum-told5 .enum-told5 .given .1) at (at-fixed-at5 .fixed-at5 .ensures .0))
-    (by-miss _ _ "if" (Mark 131) _ _ (rw (c .enum-told6 .given .1) at (c .before .before .fixed-at6 .ensures .0)) (by-none _ _)))))))
+    (by-miss _ _ "finish" (Mark 136) _ _ (rw (at-enum-told3 .enum-told3 .given .1) at (at-fixed-at3 .fixed-at3 .ensures .0))
+    (by-miss _ _ "begin" (Mark 128) _ _ (rw (at-enum-told4 .enum-told4 .given .1) at (at-fixed-at4 .fixed-at4 .ensures .0))
+    (c .later-keyword-at .ensures)))))
 
 pub keyword-at-spec : {M : Type 1} → statement M
 keyword-at-spec =
@@ -132,14 +89,5 @@ keyword-at-spec =
     (λ c. search needs)
     returns-4
     (λ c. search needs)
-    (λ c. search needs)
     (λ c κs. search needs)
-    (λ c. search needs)
-    returns-5
-    (λ c. search needs)
-    (λ c. search needs)
-    (λ c κs. search needs)
-    (λ c. search needs)
-    returns-6
-    (λ c. search needs)
-    returns-7)
+    returns-5)

@@ -1,36 +1,32 @@
-use Prim.Native.Nat.{_+_}
-use mathlib.Core.Path.{ap, _∙_}
-use native.Mathlib.Omega.{arith}
-use Rattle.order.specs.declared.Operation.the-variants.{Load}
-use Rattle.order.specs.declared.Order.the-variants.{Word}
-use Rattle.translate_expression.specs.Internal.{putOrder}
+use Rattle.translate_expression.proofs.Turns.{puts-more}
 use borrow.Author.Needs.{needs}
 use Rattle.translate_expression.proofs.put_closing.Statement.{statement}
 use Rattle.translate_expression.proofs.put_closing.Tie as tie
+use Rattle.translate_expression.proofs.put_closing.Reads as reads
+use Rattle.translate_expression.proofs.put_closing.Lts as lts
+use Rattle.translate_expression.proofs.put_order.Reads as put-order-reads
 
+-- src/lib.rt:141:9
+put-order-requires : tie.Need-put-order-requires
+put-order-requires c κs = search needs
+
+-- src/lib.rt:142:9
+put-order-requires-2 : tie.Need-put-order-requires-2
+put-order-requires-2 c κs = search needs
+
+-- src/lib.rt:143:5
+put-order-requires-3 : tie.Need-put-order-requires-3
+put-order-requires-3 c κs = search needs
+
+-- src/lib.rt:138:1
+same-length : tie.Need-same-length
+same-length c = search needs
+
+-- src/lib.rt:138:1
 returns : tie.Need-returns
-returns c =
-    let at-put-order3 = c .before .before .before .before in
-    let at-put-order2 = at-put-order3 .before .before .before .before .before .before .before in
-    let at-put-order = at-put-order2 .before .before .before .before .before .before .before in
-    let at-start = at-put-order .before .before .before .before .before in
-    let x = at-start .args in
-    let a = at-put-order .put-order .ensures in
-    let b = at-put-order2 .put-order2 .ensures in
-    let d = at-put-order3 .put-order3 .ensures in (
-      omega (arith, a .0, b .0, d .0),
-      d .1 ∙ ap (putOrder (Word (x .f) (x .word + 1))) (b .1 ∙ ap (putOrder (Word Load (x .word))) (a .1)),
-    )
+returns c = puts-more (puts-more (c .before .before .before .before .before .before .before .before .before .before .put-order .ensures) (c .before .before .before .before .before .before .put-order2 .ensures)) (c .before .before .put-order3 .ensures)
 
 pub put-closing-spec : {M : Type 1} → statement M
 put-closing-spec =
     tie.close
-    (tie.spec
-    (λ c. search needs)
-    (λ c κs. search needs)
-    (λ c κs. search needs)
-    (λ c. search needs)
-    (λ c κs. search needs)
-    (λ c. search needs)
-    (λ c. search needs)
-    returns)
+    (tie.spec put-order-requires put-order-requires-2 put-order-requires-3 same-length returns)

@@ -1,17 +1,14 @@
-use native.Mathlib.Omega.{arith}
-use Rattle.translate_size.proofs.Measured.{fields-inside, instruction-size-of}
+use Rattle.translate_size.proofs.Statements.{size-if, size-simple}
 use borrow.Author.Needs.{needs}
 use Rattle.translate_size.proofs.size_of.Statement.{statement}
 use Rattle.translate_size.proofs.size_of.Tie as tie
 
-returns-2 : tie.Need-returns-2
-returns-2 c =
-    let at-start = c .before .before .before .before in
-    let a = at-start .args in
-    λ few i is e. absurd (omega (arith, c .if2 .taken, fields-inside (a .kinds .now) (a .values .now) _ _ i is e))
+returns : tie.Need-returns
+returns c = size-if _ _ (c .before .before .kind-at .ensures) (c .before .if1 .taken) _ (c .if-size .ensures)
 
-returns-3 : tie.Need-returns-3
-returns-3 c = λ few i is e. instruction-size-of _ _ _ _ i is e _ (c .instruction-size .ensures .0)
+returns-2 : tie.Need-returns-2
+returns-2 c = size-simple _ _ (c .before .before .kind-at .ensures) (c .before .if1 .left) _ (c .simple-size .ensures)
 
 pub size-of-spec : {M : Type 1} → statement M
-size-of-spec = tie.close (tie.spec (λ c. search needs) returns-2 (λ c κs. search needs) returns-3)
+size-of-spec =
+    tie.close (tie.spec (λ c κs. search needs) (λ c κs. search needs) returns (λ c κs. search needs) returns-2)

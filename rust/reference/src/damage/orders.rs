@@ -9,7 +9,7 @@ pub type Damage = fn(&mut Random, &mut Translation);
 /// Each with how many of 2,000 objects at least are read back, refused though they are good
 /// objects, and not even that.
 #[rustfmt::skip]
-pub const DAMAGES: [(&str, Damage, [usize; 3]); 25] = [
+pub const DAMAGES: [(&str, Damage, [usize; 3]); 35] = [
     ("an order replaced", replace, [100, 1000, 100]),
     ("a name changed", change_name, [100, 1000, 0]),
     ("a relation changed", change_relation, [2000, 0, 0]),
@@ -25,11 +25,21 @@ pub const DAMAGES: [(&str, Damage, [usize; 3]); 25] = [
     ("two orders swapped", swap, [100, 1000, 100]),
     ("an address moved by one", move_address, [100, 1000, 100]),
     ("an address changed", change_address, [100, 1000, 0]),
-    ("a branch moved from a JMP to the order after it", branch_past_jump, [10, 1000, 0]),
-    ("a branch moved back to the JMP before its target", branch_to_jump, [100, 1000, 0]),
-    ("a branch's JMP taken out, the jumps moved along", drop_jump, [100, 1000, 0]),
-    ("a JMP put before a branch's target", put_in_jump, [10, 1000, 100]),
-    ("a JMP before a branch's target changed", change_jump, [100, 1000, 0]),
+    ("a branch moved from a SKIP to the order after it", branch_past_skip, [0, 1000, 0]),
+    ("a branch moved back to the SKIP before its target", branch_to_skip, [0, 1000, 0]),
+    ("a branch moved from a JMP to the order after it", branch_past_jump, [100, 100, 0]),
+    ("a branch moved back to the JMP before its target", branch_to_jump, [100, 100, 0]),
+    ("a branch moved by one", move_branch, [100, 1000, 0]),
+    ("a branch into a part", branch_into_part, [10, 1000, 0]),
+    ("a SKIP moved by one", move_skip, [100, 1000, 0]),
+    ("a SKIP that leads elsewhere", change_skip, [100, 1000, 0]),
+    ("a SKIP led on to where the SKIP leads that it leads to", lead_on, [0, 1000, 0]),
+    ("a SKIP turned into a JMP", skip_to_jump, [1000, 50, 0]),
+    ("a JMP turned into a SKIP", jump_to_skip, [0, 1000, 0]),
+    ("a JMP led to a SKIP", lead_to_skip, [0, 1000, 0]),
+    ("a SKIP taken out, the jumps moved along", drop_skip, [1000, 0, 0]),
+    ("a SKIP put before a branch's target", put_in_skip, [10, 1000, 10]),
+    ("the part of a branch taken out", drop_part, [0, 1000, 0]),
     ("a plain operand by way of temporaries", by_temporaries, [0, 1000, 10]),
     ("V changed by one", change_variables, [100, 100, 100]),
     ("T changed by one", change_temporaries, [0, 1000, 100]),
@@ -97,7 +107,14 @@ pub fn some_order(random: &mut Random, translation: &Translation) -> Order {
         0 => order(random.pick(&[Name::Neg, Name::Not]), Kind::Nothing, 0),
         1 => order(Name::Send, Kind::Nothing, 0),
         2 => order(Name::Str, Kind::Word, some_word(random, translation)),
-        3 => order(Name::Jmp, Kind::Address, some_address(random, translation)),
+        3 => {
+            let address = some_address(random, translation);
+            order(
+                random.pick(&[Name::Jmp, Name::Skip]),
+                Kind::Address,
+                address,
+            )
+        }
         4 => {
             let address = some_address(random, translation);
             order(random.pick(&BRANCHES), Kind::Address, address)
@@ -262,55 +279,148 @@ fn some_branch(
     Some((place, target(&translation.orders[place])))
 }
 
-fn is_jmp(translation: &Translation, place: usize) -> bool {
+/// Whether the order at a place has this name.
+fn is(translation: &Translation, place: usize, name: Name) -> bool {
     let order = translation.orders.get(place);
-    order.is_some_and(|order| order.name == Name::Jmp)
+    order.is_some_and(|order| order.name == name)
 }
 
-/// An IF without ELSE before a GOTO becomes one that takes it for its ELSE.
-fn branch_past_jump(random: &mut Random, translation: &mut Translation) {
-    let to_jmp = some_branch(random, translation, |target| is_jmp(translation, target));
-    if let Some((branch, target)) = to_jmp {
+/// Moves a branch to the order after its target, if that has this name.
+fn branch_past(random: &mut Random, translation: &mut Translation, name: Name) {
+    let test = |target| is(translation, target, name);
+    if let Some((branch, _)) = some_branch(random, translation, test) {
         translation.orders[branch].number += 1;
-        // sometimes the JMP leads over one order, as if that were the second u
-        if random.once_in(2) {
-            let end = translation.orders.len() - 1;
-            translation.orders[target].number = (target + 2).min(end) as u32;
-        }
     }
 }
 
-/// A branch and the JMP before its target, which mostly closes the first u of an ELSE.
-fn branch_with_jump(random: &mut Random, translation: &Translation) -> Option<(usize, usize)> {
-    let (branch, target) = some_branch(random, translation, |target| {
-        target > 0 && is_jmp(translation, target - 1)
-    })?;
-    Some((branch, target - 1))
+/// Moves a branch to the order before its target, if that has this name.
+fn branch_before(random: &mut Random, translation: &mut Translation, name: Name) {
+    let test = |target| target > 0 && is(translation, target - 1, name);
+    if let Some((branch, _)) = some_branch(random, translation, test) {
+        translation.orders[branch].number -= 1;
+    }
+}
+
+/// An IF that ends before a SKIP takes that for its own.
+fn branch_past_skip(random: &mut Random, translation: &mut Translation) {
+    branch_past(random, translation, Name::Skip);
+}
+
+fn branch_to_skip(random: &mut Random, translation: &mut Translation) {
+    branch_before(random, translation, Name::Skip);
+}
+
+/// The GOTO behind a part becomes the part's last instruction.
+fn branch_past_jump(random: &mut Random, translation: &mut Translation) {
+    branch_past(random, translation, Name::Jmp);
 }
 
 fn branch_to_jump(random: &mut Random, translation: &mut Translation) {
-    if let Some((branch, jump)) = branch_with_jump(random, translation) {
-        translation.orders[branch].number = jump as u32;
+    branch_before(random, translation, Name::Jmp);
+}
+
+fn move_branch(random: &mut Random, translation: &mut Translation) {
+    if let Some(place) = some_place(random, translation, is_branch) {
+        let last = translation.orders.len() as u32 - 1;
+        let number = &mut translation.orders[place].number;
+        move_by_one(random, number);
+        *number = (*number).min(last);
     }
 }
 
-fn drop_jump(random: &mut Random, translation: &mut Translation) {
-    if let Some((_, jump)) = branch_with_jump(random, translation) {
-        drop_at(translation, jump);
-    }
-}
-
-fn put_in_jump(random: &mut Random, translation: &mut Translation) {
+/// A branch leads to some order between itself and its target, or to one in another part.
+fn branch_into_part(random: &mut Random, translation: &mut Translation) {
     if let Some((branch, target)) = some_branch(random, translation, |_| true) {
-        let over = random.between(target, target + 4) as u32;
-        put_in_at(translation, target, order(Name::Jmp, Kind::Address, over));
+        let last = translation.orders.len() - 1;
+        let other = match random.below(2) {
+            0 => random.between((branch + 1).min(target), target),
+            _ => random.between(target, last.min(target + 12)),
+        };
+        translation.orders[branch].number = other as u32;
+    }
+}
+
+fn some_skip(random: &mut Random, translation: &Translation) -> Option<usize> {
+    some_place(random, translation, |order| order.name == Name::Skip)
+}
+
+fn some_jmp(random: &mut Random, translation: &Translation) -> Option<usize> {
+    some_place(random, translation, |order| order.name == Name::Jmp)
+}
+
+fn move_skip(random: &mut Random, translation: &mut Translation) {
+    if let Some(place) = some_skip(random, translation) {
+        let last = translation.orders.len() as u32 - 1;
+        let number = &mut translation.orders[place].number;
+        move_by_one(random, number);
+        *number = (*number).min(last);
+    }
+}
+
+fn change_skip(random: &mut Random, translation: &mut Translation) {
+    if let Some(place) = some_skip(random, translation) {
+        translation.orders[place].number = some_address(random, translation);
+    }
+}
+
+/// "Branches and SKIPs lead to the order right after their part", even where that is a SKIP.
+fn lead_on(random: &mut Random, translation: &mut Translation) {
+    let leads_to_skip = |order: &Order| {
+        let leads = is_branch(order) || order.name == Name::Skip;
+        leads && is(translation, order.number as usize, Name::Skip)
+    };
+    if let Some(place) = some_place(random, translation, leads_to_skip) {
+        let skip = translation.orders[place].number as usize;
+        translation.orders[place].number = translation.orders[skip].number;
+    }
+}
+
+fn skip_to_jump(random: &mut Random, translation: &mut Translation) {
+    if let Some(place) = some_skip(random, translation) {
+        translation.orders[place].name = Name::Jmp;
+    }
+}
+
+fn jump_to_skip(random: &mut Random, translation: &mut Translation) {
+    if let Some(place) = some_jmp(random, translation) {
+        translation.orders[place].name = Name::Skip;
+    }
+}
+
+fn lead_to_skip(random: &mut Random, translation: &mut Translation) {
+    let (jmp, skip) = (
+        some_jmp(random, translation),
+        some_skip(random, translation),
+    );
+    if let (Some(jmp), Some(skip)) = (jmp, skip) {
+        translation.orders[jmp].number = skip as u32;
+    }
+}
+
+fn drop_skip(random: &mut Random, translation: &mut Translation) {
+    if let Some(place) = some_skip(random, translation) {
+        drop_at(translation, place);
+    }
+}
+
+/// What follows a part becomes its ELSE, as far as the SKIP leads over it.
+fn put_in_skip(random: &mut Random, translation: &mut Translation) {
+    if let Some((branch, target)) = some_branch(random, translation, |_| true) {
+        let over = random.between(target + 1, target + 6) as u32;
+        put_in_at(translation, target, order(Name::Skip, Kind::Address, over));
         translation.orders[branch].number = target as u32 + 1;
     }
 }
 
-fn change_jump(random: &mut Random, translation: &mut Translation) {
-    if let Some((_, jump)) = branch_with_jump(random, translation) {
-        translation.orders[jump].number = some_address(random, translation);
+/// The orders between a branch and its target, or its SKIP, are left out.
+fn drop_part(random: &mut Random, translation: &mut Translation) {
+    let Some((branch, target)) = some_branch(random, translation, |_| true) else {
+        return;
+    };
+    let skips = target > 0 && is(translation, target - 1, Name::Skip);
+    let end = target - usize::from(skips);
+    for place in (branch + 1..end).rev() {
+        drop_at(translation, place);
     }
 }
 

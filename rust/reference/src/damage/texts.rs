@@ -153,9 +153,9 @@ fn change_kind(random: &mut Random, text: &mut Vec<u8>) {
 }
 
 fn change_name(random: &mut Random, text: &mut Vec<u8>) {
-    let names: [&[u8]; 18] = [
-        b"LOAD", b"STR", b"NEG", b"SEND", b"STOP", b"JMP", b"BE", b"OR", b"BOX", b"", b"load",
-        b"LOA", b"LOADS", b"B", b"BL", b"SENDS", b"CALL", b" ADD",
+    let names: [&[u8]; 20] = [
+        b"LOAD", b"STR", b"NEG", b"SEND", b"STOP", b"JMP", b"SKIP", b"SKI", b"BE", b"OR", b"BOX",
+        b"", b"load", b"LOA", b"LOADS", b"B", b"BL", b"SENDS", b"CALL", b" ADD",
     ];
     let line = some_line(random, text);
     set_field(text, line, 0, random.pick(&names), false);
@@ -188,7 +188,7 @@ fn word_out_of_range(random: &mut Random, text: &mut Vec<u8>) {
 fn address_out_of_range(random: &mut Random, text: &mut Vec<u8>) {
     if let Some([_, _, orders]) = header_numbers(text) {
         let address = random.pick(&[orders, orders.saturating_add(1), 2147483647]);
-        let name = random.pick(&["JMP", "BE", "BGE"]);
+        let name = random.pick(&["JMP", "SKIP", "BE", "BGE"]);
         set_line(random, text, &format!("{name}\tA\t{address}\n"));
     }
 }
@@ -198,7 +198,7 @@ fn early_stop(random: &mut Random, text: &mut Vec<u8>) {
 }
 
 fn no_stop(random: &mut Random, text: &mut Vec<u8>) {
-    let line = random.pick(&["NEG\t-\t0\n", "JMP\tA\t0\n", "LOAD\tK\t7\n"]);
+    let line = random.pick(&["NEG\t-\t0\n", "JMP\tA\t0\n", "SKIP\tA\t0\n", "LOAD\tK\t7\n"]);
     with_lines(text, |lines| {
         let last = lines.len() - 1;
         lines[last] = line.as_bytes().to_vec();

@@ -11,6 +11,9 @@ pub enum Statement<'t> {
     Integer(&'t [Token]),
     /// The labels, each with its colon, and the instruction behind them if there is one.
     Labelled(&'t [Token], Option<Instruction>),
+    Finish,
+    /// `%FINISH %ELSE %START`
+    FinishElseStart,
     EndOfProgram,
 }
 
@@ -20,9 +23,16 @@ pub enum Instruction {
         relation: Relation,
         left: Place,
         right: Place,
-        then: Simple,
-        otherwise: Option<Simple>,
+        parts: Parts,
     },
+}
+
+/// What stands behind `%THEN`.
+pub enum Parts {
+    /// One u or, with `%ELSE`, two.
+    Simple(Simple, Option<Simple>),
+    /// `%START`
+    Group,
 }
 
 /// An instruction that may stand after `%THEN` and `%ELSE`.
@@ -81,13 +91,16 @@ struct Parser<'t, 's> {
 impl<'t> Parser<'t, '_> {
     fn statement(&mut self) -> Option<Statement<'t>> {
         let labels = self.labels();
-        // a labelled `%BEGIN`, `%INTEGER` or `%ENDOFPROGRAM` has no form
+        // a labelled `%BEGIN`, `%INTEGER`, `%FINISH` or `%ENDOFPROGRAM` has no form
         if labels.is_empty() {
             if self.take(Token::Begin) {
                 return Some(Statement::Begin);
             }
             if self.take(Token::Integer) {
                 return Some(Statement::Integer(self.name_list()?));
+            }
+            if self.take(Token::Finish) {
+                return self.finish();
             }
             if self.take(Token::EndOfProgram) {
                 return Some(Statement::EndOfProgram);
@@ -119,7 +132,17 @@ impl<'t> Parser<'t, '_> {
         Some(&tokens[..tokens.len() - self.rest.len()])
     }
 
-    /// A simple instruction, or "`%IF expr rel expr %THEN u` with an optional `%ELSE u`".
+    /// "`%FINISH`, and `%FINISH %ELSE %START`"
+    fn finish(&mut self) -> Option<Statement<'t>> {
+        if !self.take(Token::Else) {
+            return Some(Statement::Finish);
+        }
+        self.take(Token::Start)
+            .then_some(Statement::FinishElseStart)
+    }
+
+    /// A simple instruction, or "`%IF expr rel expr %THEN u` with an optional `%ELSE u`", or
+    /// "`%IF .. %THEN %START`".
     fn instruction(&mut self) -> Option<Instruction> {
         if !self.take(Token::If) {
             return Some(Instruction::Simple(self.simple()?));
@@ -130,18 +153,25 @@ impl<'t> Parser<'t, '_> {
         if !self.take(Token::Then) {
             return None;
         }
+        Some(Instruction::If {
+            relation,
+            left,
+            right,
+            parts: self.parts()?,
+        })
+    }
+
+    /// A group has no lone u for its other part: "Any other mixture is 7."
+    fn parts(&mut self) -> Option<Parts> {
+        if self.take(Token::Start) {
+            return Some(Parts::Group);
+        }
         let then = self.simple()?;
         let otherwise = match self.take(Token::Else) {
             true => Some(self.simple()?),
             false => None,
         };
-        Some(Instruction::If {
-            relation,
-            left,
-            right,
-            then,
-            otherwise,
-        })
+        Some(Parts::Simple(then, otherwise))
     }
 
     /// "`name = expr`, `SEND(expr)`, `->label`"

@@ -1,17 +1,19 @@
 //! The statements of a program in order: names, labels and limits.
 
-use super::grammar::{Instruction, Node, Simple, Statement};
+use super::grammar::{self, Instruction, Node, Simple, Statement};
 use super::tables::{Labels, Variables};
 use super::tokens::{Name, Token};
-use super::{refuse, LABEL_MISUSED, NAME_MISUSED, NO_SUCH_FORM, OVER_LIMIT};
+use super::{refuse, GROUP_MISUSED, LABEL_MISUSED, NAME_MISUSED, NO_SUCH_FORM, OVER_LIMIT};
 use crate::compact::{self, Compact, Place};
-use crate::object::{MOST_ORDERS, MOST_TEMPORARIES, MOST_VARIABLES};
-use crate::sheet;
+use crate::object::{MOST_LEVELS, MOST_ORDERS, MOST_TEMPORARIES, MOST_VARIABLES};
+use crate::sheet::{self, Line};
 use crate::Refusal;
 
 /// "Labels are decimal, 1 to 9999."
 const MOST_LABEL: u32 = 9999;
 const MOST_LABELS: usize = 64;
+/// A label that leads to this number and a level waits for the end of that level's IF.
+const WAITING: u32 = 1 << 31;
 
 /// How far a program has come.
 #[derive(Clone, Copy, PartialEq, Eq)]
@@ -28,10 +30,23 @@ pub struct Program {
     labels: Labels,
     /// The statements of the jumps, in order of the text.
     jumps: Vec<u32>,
+    /// Those that are open, the innermost last.
+    groups: Vec<Group>,
     /// Each GOTO has its label in place of an instruction's number.
     sheet: Compact,
+    /// How many lines of the sheet are instructions.
+    instructions: u32,
     /// Those of the instructions, without STOP.
     orders: u32,
+}
+
+/// A group that is open.
+struct Group {
+    /// The statement with its `%START`.
+    start: u32,
+    /// The instructions before the group.
+    before: u32,
+    is_second: bool,
 }
 
 /// What a statement's names and nodes are looked up in.
@@ -48,7 +63,9 @@ impl Program {
             variables: Variables::default(),
             labels: Labels::default(),
             jumps: Vec::new(),
+            groups: Vec::with_capacity(MOST_LEVELS),
             sheet: Compact::new(0),
+            instructions: 0,
             orders: 0,
         }
     }
@@ -61,12 +78,19 @@ impl Program {
             Statement::Begin => {}
             Statement::Integer(names) => self.declare(names, parts.cells)?,
             Statement::Labelled(labels, instruction) => {
-                let instruction = instruction.as_ref();
-                let resolved = instruction.map(|it| self.instruction(it, parts));
-                let resolved = resolved.transpose()?;
-                self.set_labels(labels)?;
-                self.hold(resolved, number)?;
+                let next = self.instructions + 1;
+                let first = self.sheet.lines.len();
+                if let Some(instruction) = instruction {
+                    self.instruction(instruction, parts)?;
+                }
+                self.set_labels(labels, next)?;
+                self.hold(first, number)?;
+                if is_group(instruction) {
+                    self.open(number, false);
+                }
             }
+            Statement::Finish => self.finish()?,
+            Statement::FinishElseStart => self.finish_else_start(number)?,
             Statement::EndOfProgram => return Ok(true),
         }
         Ok(false)
@@ -80,7 +104,7 @@ impl Program {
             (Part::Nothing, _) | (_, Statement::Begin) => None,
             (Part::Declarations, Statement::Integer(_)) => Some(Part::Declarations),
             (Part::Instructions, Statement::Integer(_)) => None,
-            (_, Statement::Labelled(..) | Statement::EndOfProgram) => Some(Part::Instructions),
+            _ => Some(Part::Instructions),
         }
     }
 
@@ -122,45 +146,56 @@ impl Program {
         Ok(())
     }
 
-    /// An instruction as the sheet has it, its nodes added to the program's.
-    fn instruction(
-        &mut self,
-        instruction: &Instruction,
-        parts: Parts,
-    ) -> Result<sheet::Instruction<Place>, u32> {
+    /// Adds the lines of an instruction: of an IF with groups, only its own.
+    fn instruction(&mut self, instruction: &Instruction, parts: Parts) -> Result<(), u32> {
         let first = self.sheet.nodes.len() as Place;
         self.add_nodes(parts)?;
-        let simple = |simple: &Simple| -> Result<sheet::Simple<Place>, u32> {
-            Ok(match *simple {
-                Simple::Assignment(name, value) => {
-                    sheet::Simple::Set(self.word(name, parts.cells)?, first + value)
-                }
-                Simple::Send(value) => sheet::Simple::Send(first + value),
-                Simple::Jump(label) => sheet::Simple::Goto(label),
-            })
-        };
-        Ok(match instruction {
-            Instruction::Simple(only) => sheet::Instruction::Simple(simple(only)?),
+        let (relation, left, right, simples) = match instruction {
+            Instruction::Simple(only) => return self.simple(only, first, parts.cells),
             Instruction::If {
                 relation,
                 left,
                 right,
-                then,
-                otherwise,
-            } => sheet::Instruction::If {
-                relation: *relation,
-                left: first + left,
-                right: first + right,
-                then: simple(then)?,
-                otherwise: otherwise.as_ref().map(simple).transpose()?,
-            },
-        })
+                parts,
+            } => (*relation, first + left, first + right, parts),
+        };
+        self.put(Line::If {
+            relation,
+            left,
+            right,
+        });
+        let grammar::Parts::Simple(then, otherwise) = simples else {
+            return Ok(());
+        };
+        self.simple(then, first, parts.cells)?;
+        if let Some(otherwise) = otherwise {
+            self.put(Line::Else);
+            self.simple(otherwise, first, parts.cells)?;
+        }
+        self.put(Line::Finish);
+        Ok(())
+    }
+
+    /// Adds the line of a simple instruction, whose nodes stand behind the first.
+    fn simple(&mut self, simple: &Simple, first: Place, cells: &[u8]) -> Result<(), u32> {
+        let simple = match *simple {
+            Simple::Assignment(name, value) => {
+                sheet::Simple::Set(self.word(name, cells)?, first + value)
+            }
+            Simple::Send(value) => sheet::Simple::Send(first + value),
+            Simple::Jump(label) => sheet::Simple::Goto(label),
+        };
+        self.put(Line::Simple(simple));
+        Ok(())
+    }
+
+    fn put(&mut self, line: Line<Place>) {
+        self.instructions += u32::from(line.is_instruction());
+        self.sheet.lines.push(line);
     }
 
     /// "label 0 or over 9999, set twice"
-    fn set_labels(&mut self, labels: &[Token]) -> Result<(), u32> {
-        // "a label as the number of the instruction after it or one past the last"
-        let next = self.sheet.instructions.len() as u32 + 1;
+    fn set_labels(&mut self, labels: &[Token], next: u32) -> Result<(), u32> {
         for token in labels {
             let Token::Decimal(label) = *token else {
                 continue;
@@ -172,28 +207,29 @@ impl Program {
         Ok(())
     }
 
-    /// Adds the instruction, if there is one. Holds its jumps to being labels, and the set labels,
+    /// Holds the lines from a place on: their jumps to being labels, and the set labels, the levels,
     /// the temporaries and the orders to their limits.
-    fn hold(
-        &mut self,
-        instruction: Option<sheet::Instruction<Place>>,
-        number: u32,
-    ) -> Result<(), u32> {
+    fn hold(&mut self, first: usize, number: u32) -> Result<(), u32> {
         let mut temporaries = 0;
-        if let Some(mut instruction) = instruction {
-            for label in instruction.targets() {
-                if !is_label(*label) {
+        let mut levels = 0;
+        for place in first..self.sheet.lines.len() {
+            let line = self.sheet.lines[place];
+            if let Line::Simple(sheet::Simple::Goto(label)) = line {
+                if !is_label(label) {
                     return Err(LABEL_MISUSED);
                 }
                 self.jumps.push(number);
             }
-            let count = self.sheet.count(&instruction);
+            if let Line::If { .. } = line {
+                levels = self.groups.len() + 1;
+            }
+            let count = self.sheet.count(&line);
             self.orders += count.orders;
-            temporaries = count.temporaries;
-            self.sheet.instructions.push(instruction);
+            temporaries = temporaries.max(count.temporaries);
         }
         // "Orders are over at the first statement where those so far and STOP pass 1,024."
         if self.labels.count() > MOST_LABELS
+            || levels > MOST_LEVELS
             || temporaries > MOST_TEMPORARIES
             || self.orders as usize + 1 > MOST_ORDERS
         {
@@ -202,12 +238,57 @@ impl Program {
         Ok(())
     }
 
-    /// The sheet at `%ENDOFPROGRAM`, or the refusal at the first jump whose label is never set.
+    fn open(&mut self, start: u32, is_second: bool) {
+        self.groups.push(Group {
+            start,
+            before: self.instructions,
+            is_second,
+        });
+    }
+
+    /// Takes the innermost group away. "A group with no instruction, labels or none, is refusal 7",
+    /// and so is a third part.
+    fn close(&mut self, has_else: bool) -> Result<Group, u32> {
+        let group = self.groups.pop().ok_or(GROUP_MISUSED)?;
+        let is_empty = group.before == self.instructions;
+        match is_empty || (group.is_second && has_else) {
+            true => Err(NO_SUCH_FORM),
+            false => Ok(group),
+        }
+    }
+
+    /// What waited for the end of this IF leads to the next instruction, as do the labels behind its
+    /// last one.
+    fn finish(&mut self) -> Result<(), u32> {
+        if self.close(false)?.is_second {
+            let waiting = WAITING + self.groups.len() as u32;
+            self.labels.lead_on(waiting, self.instructions + 1);
+        }
+        self.put(Line::Finish);
+        Ok(())
+    }
+
+    /// "A jump to the place after a group's last instruction means ... the instruction after the
+    /// whole IF": the labels there do not lead to the second part.
+    fn finish_else_start(&mut self, number: u32) -> Result<(), u32> {
+        self.close(true)?;
+        let waiting = WAITING + self.groups.len() as u32;
+        self.labels.lead_on(self.instructions + 1, waiting);
+        let first = self.sheet.lines.len();
+        self.put(Line::Else);
+        self.open(number, true);
+        self.hold(first, number)
+    }
+
+    /// The sheet at `%ENDOFPROGRAM`, or the refusal at the first `%START` whose group is open, or at
+    /// the first jump whose label is never set.
     pub fn sheet(self) -> Result<Compact, Refusal> {
+        if let Some(group) = self.groups.first() {
+            return refuse(GROUP_MISUSED, group.start);
+        }
         let mut sheet = self.sheet;
         sheet.variables = self.variables.count();
-        let targets = sheet.instructions.iter_mut();
-        let targets = targets.flat_map(sheet::Instruction::targets);
+        let targets = sheet.lines.iter_mut().filter_map(Line::target);
         for (target, number) in targets.zip(self.jumps) {
             match self.labels.instruction(*target) {
                 Some(instruction) => *target = instruction,
@@ -216,6 +297,17 @@ impl Program {
         }
         Ok(sheet)
     }
+}
+
+/// Whether an instruction is an IF with groups.
+fn is_group(instruction: &Option<Instruction>) -> bool {
+    matches!(
+        instruction,
+        Some(Instruction::If {
+            parts: grammar::Parts::Group,
+            ..
+        })
+    )
 }
 
 fn is_label(number: u32) -> bool {

@@ -52,8 +52,8 @@ impl Variables {
     }
 }
 
-/// The labels that are set, each with the number of the instruction after it, in order of the
-/// labels.
+/// The labels that are set, in order of the labels, each with the number of the instruction that it
+/// leads to. One behind a first part that has a second waits for what follows the whole IF.
 #[derive(Default)]
 pub struct Labels {
     rows: Vec<(u32, u32)>,
@@ -71,6 +71,15 @@ impl Labels {
     pub fn instruction(&self, label: u32) -> Option<u32> {
         let row = self.search(label).ok()?;
         Some(self.rows[row].1)
+    }
+
+    /// Lets all labels that lead to one number lead to another.
+    pub fn lead_on(&mut self, from: u32, to: u32) {
+        for row in &mut self.rows {
+            if row.1 == from {
+                row.1 = to;
+            }
+        }
     }
 
     /// Sets a label, unless it is already.

@@ -13,6 +13,8 @@ pub enum Token {
     If,
     Then,
     Else,
+    Start,
+    Finish,
     Name(Name),
     Decimal(u32),
     Quoted(u32),
@@ -45,13 +47,15 @@ impl Name {
 }
 
 /// None begins another, so the one that stands is the longest.
-const KEYWORDS: [(&[u8], Token); 6] = [
+const KEYWORDS: [(&[u8], Token); 8] = [
     (b"BEGIN", Token::Begin),
     (b"ENDOFPROGRAM", Token::EndOfProgram),
     (b"INTEGER", Token::Integer),
     (b"IF", Token::If),
     (b"THEN", Token::Then),
     (b"ELSE", Token::Else),
+    (b"START", Token::Start),
+    (b"FINISH", Token::Finish),
 ];
 
 /// The most characters of a quoted constant.

@@ -1,35 +1,21 @@
 //! Constants that a source may write in quotes.
 
 use crate::random::Random;
-use crate::sheet::{Expression, Instruction, Sheet, Simple};
+use crate::sheet::{Expression, Line, Sheet, Simple};
 
 /// Makes some constants of a sheet such that they may be written in quotes.
 pub fn put(random: &mut Random, sheet: &mut Sheet) {
-    for instruction in &mut sheet.instructions {
-        match instruction {
-            Instruction::Simple(simple) => put_in_simple(random, simple),
-            Instruction::If {
-                left,
-                right,
-                then,
-                otherwise,
-                ..
-            } => {
+    for line in &mut sheet.lines {
+        match line {
+            Line::Simple(Simple::Set(_, value) | Simple::Send(value)) => {
+                put_in_expression(random, value);
+            }
+            Line::If { left, right, .. } => {
                 put_in_expression(random, left);
                 put_in_expression(random, right);
-                put_in_simple(random, then);
-                if let Some(otherwise) = otherwise {
-                    put_in_simple(random, otherwise);
-                }
             }
+            _ => {}
         }
-    }
-}
-
-fn put_in_simple(random: &mut Random, simple: &mut Simple) {
-    match simple {
-        Simple::Set(_, value) | Simple::Send(value) => put_in_expression(random, value),
-        Simple::Goto(_) => {}
     }
 }
 

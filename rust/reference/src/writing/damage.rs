@@ -9,7 +9,7 @@ use crate::random::Random;
 pub fn change(random: &mut Random, statements: &mut Statements) {
     let place = random.below(statements.len());
     let other = random.below(statements.len());
-    match random.below(12) {
+    match random.below(15) {
         0 => {
             statements.remove(place);
             if statements.is_empty() {
@@ -28,8 +28,47 @@ pub fn change(random: &mut Random, statements: &mut Statements) {
         }
         5 => statements.insert(place, vec![Token::Symbol("->"), soup::some_label(random)]),
         6 => statements.truncate(place.max(1)),
+        7..=9 => change_group(random, statements, place),
         _ => change_token(random, &mut statements[place]),
     }
+}
+
+/// Puts a statement of a group in, changes one, or leaves one out.
+fn change_group(random: &mut Random, statements: &mut Statements, place: usize) {
+    let is_group = |statement: &Vec<Token>| {
+        let word = |token: &Token| matches!(token, Token::Keyword("START" | "FINISH"));
+        statement.iter().any(word)
+    };
+    let groups: Vec<usize> = (0..statements.len())
+        .filter(|&place| is_group(&statements[place]))
+        .collect();
+    let group = (!groups.is_empty()).then(|| random.pick(&groups));
+    let label = || [Token::Decimal(4711), Token::Symbol(":")];
+    match (random.below(9), group) {
+        (0, Some(group)) => drop(statements.remove(group)),
+        (1, Some(group)) => statements[group].push(soup::token(random)),
+        (2, Some(group)) => drop(statements[group].splice(0..0, label())),
+        (3, Some(group)) => statements.insert(group, label().to_vec()),
+        (4, Some(group)) => {
+            statements[group] = soup::words("FINISH ELSE START").collect();
+        }
+        (5, Some(group)) => statements[group] = soup::words("FINISH").collect(),
+        // an empty group, where the next closes this one
+        (6, Some(group)) => statements.insert(group, condition()),
+        (7, _) => statements.insert(place, condition()),
+        (_, _) => {
+            let words = random.pick(&["FINISH", "FINISH ELSE START"]);
+            statements.insert(place, soup::words(words).collect());
+        }
+    }
+}
+
+/// An IF with a group that holds for all programs.
+fn condition() -> Vec<Token> {
+    let number = || Token::Decimal(1);
+    let mut tokens = vec![Token::Keyword("IF"), number(), Token::Symbol("="), number()];
+    tokens.extend(soup::words("THEN START"));
+    tokens
 }
 
 fn change_token(random: &mut Random, statement: &mut Vec<Token>) {

@@ -21,6 +21,8 @@ const FORMS: &[&str] = &[
     "%IF ",
     "%THEN ",
     "%ELSE ",
+    "%START ",
+    "%FINISH ",
     "A",
     "=",
     "1",
@@ -49,6 +51,15 @@ const STATEMENTS: &[&str] = &[
     "->2\n",
     "%ENDOFPROGRAM\n",
 ];
+const GROUPS: &[&str] = &[
+    "",
+    "%IF A=1%THEN %START\n",
+    "%FINISH\n",
+    "%FINISH%ELSE%START\n",
+    "A=1\n",
+    "1:\n",
+    "->1\n",
+];
 const KEYWORDS: &[&str] = &[
     "", "%", " ", "if", "IF", "THEN", "A", "a=", "1", "%c\n", "C\n", "=",
 ];
@@ -60,6 +71,13 @@ const LOW_DIGITS: &[&str] = &[
 ];
 const START: &[&str] = &["%BEGIN\n%INTEGER A\n"];
 const END: &[&str] = &["\n%ENDOFPROGRAM\n"];
+
+/// Groups that are open before the others, of a first part and of a second.
+const GROUPS_BEFORE: &[&str] = &[
+    "",
+    "%IF A=1%THEN %START\n->1\n",
+    "%IF A=1%THEN %START\nA=1\n%FINISH%ELSE%START\n",
+];
 
 /// The kinds, about a million sources in all.
 pub fn kinds() -> Vec<Kind> {
@@ -114,6 +132,23 @@ pub fn kinds() -> Vec<Kind> {
                 STATEMENTS,
                 STATEMENTS,
                 &["", "%ENDOFPROGRAM"],
+            ],
+        ),
+        kind("groups", within(GROUPS_BEFORE, GROUPS, 6, &["", "2:->2"])),
+        kind(
+            "forms of groups",
+            vec![
+                START,
+                &["%IF A=1 %THEN %START\n", ""],
+                &["A=1\n", "1:\n", ""],
+                &["", "1:", "%IF A=1 %THEN ", "A=1;"],
+                &["%FINISH", "%START", "A=1", ""],
+                &[" ", ";"],
+                &["", "%ELSE "],
+                &["%START", "A=1", "%FINISH", ""],
+                &["", "A=1", ";A=1", ";A=1\n%FINISH", ";1:\n%FINISH"],
+                &["", ";%FINISH", ";%FINISH;%FINISH"],
+                END,
             ],
         ),
         kind(

@@ -9,13 +9,15 @@ type Maker = fn(&mut Random) -> Vec<u8>;
 
 /// A source of any of the kinds below. Those of many bytes come less often.
 pub fn source(random: &mut Random) -> Vec<u8> {
-    const MAKERS: [Maker; 6] = [
+    const MAKERS: [Maker; 8] = [
         cells,
         cells_at_the_end,
         variables,
         labels,
         temporaries,
         orders,
+        levels,
+        open_groups,
     ];
     match random.below(40) {
         0 => length(random),
@@ -277,12 +279,102 @@ fn instruction(random: &mut Random, orders: usize) -> String {
     match (orders, random.below(8)) {
         (1, _) => "->1".to_string(),
         (2.., 0) => format!("SEND({})", chain(orders - 2)),
-        // the comparison, the branch, and with ELSE the JMP
+        // the comparison, the branch, and with ELSE the SKIP
         (4.., 1) => format!("%IF {}=1 %THEN ->1", chain(orders - 4)),
         (6.., 2) => format!("%IF {}=1 %THEN ->1 %ELSE ->1", chain(orders - 6)),
         (3.., 3) => format!("A=-{}", chain(orders - 3)),
+        (4.., 4) => {
+            let condition = format!("%IF {}=1 %THEN %START", chain(orders - 4));
+            condition + "\n->1\n%FINISH"
+        }
+        (6.., 5) => {
+            let condition = format!("%IF {}=1 %THEN %START", chain(orders - 6));
+            condition + "\n->1\n%FINISH %ELSE %START\n->1\n%FINISH"
+        }
         _ => format!("A={}", chain(orders - 2)),
     }
+}
+
+/// IFs in each other, of about as many levels as there may be, maybe with another refusal.
+fn levels(random: &mut Random) -> Vec<u8> {
+    let count = around(random, 16);
+    let mut source = String::from("%BEGIN\n%INTEGER A\n");
+    let mut in_second = vec![false; count];
+    for second in &mut in_second {
+        source += random.pick(&["", "", "A=1\n", "->1\n"]);
+        source += "%IF A=1 %THEN %START\n";
+        *second = random.once_in(2);
+        if *second {
+            source += random.pick(&["A=2\n", "->1\n", "A=2\n2:\n"]);
+            source += "%FINISH %ELSE %START\n";
+        }
+    }
+    source += random.pick(&[
+        "A=3\n",
+        "->1\n",
+        "%IF A=1 %THEN A=2\n",
+        "%IF A=1 %THEN ->0\n",
+        "%IF A=X %THEN A=2 %ELSE ->1\n",
+        "%IF A=1 %THEN A=2 %ELSE ->1\n",
+        "%IF A=1 %THEN %START A=2\n",
+        "3:\n",
+        "",
+    ]);
+    for second in in_second.into_iter().rev() {
+        source += random.pick(&["", "", "", "", "3:\n", "A=4\n"]);
+        if !second && random.once_in(3) {
+            source += "%FINISH %ELSE %START\n->1\n";
+        }
+        source += "%FINISH\n";
+    }
+    source += random.pick(&["1:\n", "1:\n", "1:A=5\n", "1:\n%FINISH\n", "->9\n", ""]);
+    (source + "%ENDOFPROGRAM\n").into_bytes()
+}
+
+/// Statements of groups in any order, with other refusals that come before 13 or after it.
+fn open_groups(random: &mut Random) -> Vec<u8> {
+    const GROUPS: [&str; 8] = [
+        "%IF A=1 %THEN %START",
+        "%IF A=1 %THEN %START",
+        "2:%IF A=1 %THEN %START",
+        "%FINISH",
+        "%FINISH",
+        "%FINISH %ELSE %START",
+        "%FINISH %ELSE %START",
+        "4:%FINISH",
+    ];
+    const OTHERS: [&str; 16] = [
+        "A=1",
+        "A=1",
+        "->1",
+        "->1",
+        "->3",
+        "->9",
+        "3:",
+        "3:A=1",
+        "4:",
+        "%IF A=1 %THEN ->3",
+        "%IF A=1 %THEN A=1 %ELSE ->1",
+        "A=X",
+        "A=1+",
+        "%ELSE %START",
+        "%START",
+        "%INTEGER B",
+    ];
+    let mut statements = vec!["%BEGIN", "%INTEGER A", "1:"];
+    // one that is refused by itself hides what comes behind it
+    let kinds = random.pick(&[5, 11, 11, 16]);
+    let groups = GROUPS.len() - random.pick(&[0, 1, 1]);
+    for _ in 0..random.between(1, 14) {
+        statements.push(match random.below(2) {
+            0 => random.pick(&GROUPS[..groups]),
+            _ => random.pick(&OTHERS[..kinds]),
+        });
+    }
+    if !random.once_in(8) {
+        statements.push("%ENDOFPROGRAM");
+    }
+    statements.join(random.pick(&["\n", ";"])).into_bytes()
 }
 
 /// Hundreds of statements, most of them jumps of one order each, up to about the most orders.

@@ -4,7 +4,7 @@ use super::spelling::length;
 use super::token::Token;
 use crate::object::{LINK_WORDS, MOST_VARIABLES};
 use crate::random::Random;
-use crate::sheet::{Expression, Instruction, Operator, Sheet, Sign, Simple};
+use crate::sheet::{closings, Expression, Line, Operator, Relation, Sheet, Sign, Simple};
 use crate::sheet::{OPERATORS, RELATIONS};
 use std::collections::BTreeSet;
 
@@ -24,18 +24,20 @@ pub fn write(random: &mut Random, sheet: &Sheet) -> Option<Statements> {
     let mut writer = Writer {
         random,
         names,
+        unset: labels.clone(),
         labels,
         brackets,
         tokens: Vec::new(),
+        statements: vec![vec![Token::Keyword("BEGIN")]],
     };
-    let mut statements = vec![vec![Token::Keyword("BEGIN")]];
-    statements.extend(writer.declarations());
-    for (place, instruction) in sheet.instructions.iter().enumerate() {
-        writer.instruction(instruction);
-        let instruction = std::mem::take(&mut writer.tokens);
-        writer.put_labelled(&mut statements, place, instruction);
+    writer.declare();
+    let groups = Groups::of(&sheet.lines);
+    let mut place = 0;
+    while place < sheet.lines.len() {
+        place = writer.line(&groups, place);
     }
-    writer.put_labelled(&mut statements, sheet.instructions.len(), Vec::new());
+    writer.put_labelled(sheet.count() as usize);
+    let mut statements = writer.statements;
     statements.push(vec![Token::Keyword("ENDOFPROGRAM")]);
     let fits = |statement: &Vec<Token>| length(statement) <= MOST_CELLS;
     statements.iter().all(fits).then_some(statements)
@@ -43,24 +45,54 @@ pub fn write(random: &mut Random, sheet: &Sheet) -> Option<Statements> {
 
 /// The instructions' numbers that the GOTOs of a sheet lead to.
 fn targets(sheet: &Sheet) -> BTreeSet<u32> {
-    let mut targets = BTreeSet::new();
-    let mut note = |simple: &Simple| {
-        if let Simple::Goto(target) = simple {
-            targets.insert(*target);
-        }
+    let target = |line: &Line| match line {
+        Line::Simple(Simple::Goto(target)) => Some(*target),
+        _ => None,
     };
-    for instruction in &sheet.instructions {
-        match instruction {
-            Instruction::Simple(simple) => note(simple),
-            Instruction::If {
-                then, otherwise, ..
-            } => {
-                note(then);
-                otherwise.iter().for_each(&mut note);
-            }
+    sheet.lines.iter().filter_map(target).collect()
+}
+
+/// The lines of a sheet, and how its groups lie.
+struct Groups<'s> {
+    lines: &'s [Line],
+    closings: Vec<usize>,
+    /// How many instructions stand before each line and before the end.
+    before: Vec<usize>,
+}
+
+impl Groups<'_> {
+    fn of(lines: &[Line]) -> Groups<'_> {
+        let mut before = vec![0];
+        for line in lines {
+            before.push(before[before.len() - 1] + usize::from(line.is_instruction()));
+        }
+        Groups {
+            lines,
+            closings: closings(lines),
+            before,
         }
     }
-    targets
+
+    /// The simple instruction that is the whole part behind a line.
+    fn lone(&self, place: usize) -> Option<&Simple> {
+        match &self.lines[place + 1] {
+            Line::Simple(simple) if self.closings[place] == place + 2 => Some(simple),
+            _ => None,
+        }
+    }
+
+    /// How many instructions stand before the one that a jump behind the last of a part leads to:
+    /// "the instruction after the whole IF, and so on outwards, or the end".
+    fn behind(&self, closing: usize) -> usize {
+        let mut place = closing;
+        loop {
+            place = match self.lines.get(place) {
+                Some(Line::Else) => self.closings[place],
+                Some(Line::Finish) => place + 1,
+                _ => return self.before[place],
+            };
+        }
+    }
 }
 
 /// Labels before each instruction and at the end, at least one where a GOTO leads.
@@ -83,7 +115,7 @@ fn labels(random: &mut Random, sheet: &Sheet) -> Option<Vec<Vec<u32>>> {
             return label as u32;
         }
     };
-    let mut labels = vec![Vec::new(); sheet.instructions.len() + 1];
+    let mut labels = vec![Vec::new(); sheet.count() as usize + 1];
     for target in targets {
         labels[target as usize - 1].push(fresh(random));
     }
@@ -142,11 +174,15 @@ fn name(random: &mut Random, longest: usize) -> String {
 struct Writer<'r> {
     random: &'r mut Random,
     names: Vec<String>,
+    /// Those of each instruction and of the end.
     labels: Vec<Vec<u32>>,
+    /// Those of them that no statement has yet.
+    unset: Vec<Vec<u32>>,
     /// Once in so many times an operand gets brackets that it does not need.
     brackets: usize,
     /// Those of the statement being written.
     tokens: Vec<Token>,
+    statements: Statements,
 }
 
 impl Writer<'_> {
@@ -154,8 +190,8 @@ impl Writer<'_> {
         self.tokens.push(Token::Symbol(symbol));
     }
 
-    /// The names in one list or several.
-    fn declarations(&mut self) -> Statements {
+    /// Puts the names in one list or several.
+    fn declare(&mut self) {
         let mut lists = Statements::new();
         let longest = self.random.pick(&[1, 5, 60, 60]);
         for name in &self.names {
@@ -167,45 +203,99 @@ impl Writer<'_> {
                 _ => lists.push(vec![Token::Keyword("INTEGER"), name]),
             }
         }
-        lists
+        self.statements.extend(lists);
     }
 
-    /// Puts the labels of a place, some of them alone, and the instruction behind them. At the end of
-    /// the program it has no tokens.
-    fn put_labelled(&mut self, statements: &mut Statements, place: usize, instruction: Vec<Token>) {
+    /// Puts the labels of an instruction, some of them alone, and the statement that is written
+    /// behind them. At the end of the program it has no tokens.
+    fn put_labelled(&mut self, instruction: usize) {
+        let tokens = std::mem::take(&mut self.tokens);
+        let labels = std::mem::take(&mut self.unset[instruction]);
         let mut statement = Vec::new();
-        for label in self.labels[place].clone() {
+        for label in labels {
             statement.extend([Token::Decimal(label), Token::Symbol(":")]);
-            if self.random.once_in(4) || length(&statement) + length(&instruction) > 240 {
-                statements.push(std::mem::take(&mut statement));
+            if self.random.once_in(4) || length(&statement) + length(&tokens) > 240 {
+                self.statements.push(std::mem::take(&mut statement));
             }
         }
-        statement.extend(instruction);
+        statement.extend(tokens);
         if !statement.is_empty() {
-            statements.push(statement);
+            self.statements.push(statement);
         }
     }
 
-    fn instruction(&mut self, instruction: &Instruction) {
-        match instruction {
-            Instruction::Simple(simple) => self.simple(simple),
-            Instruction::If {
+    /// Puts the statements of the line at a place, and gives the place of the next line. An IF may
+    /// be written with the lines of its parts.
+    fn line(&mut self, groups: &Groups, place: usize) -> usize {
+        let instruction = groups.before[place];
+        match &groups.lines[place] {
+            Line::Simple(simple) => self.simple(simple),
+            Line::If {
                 relation,
                 left,
                 right,
-                then,
-                otherwise,
             } => {
-                self.tokens.push(Token::Keyword("IF"));
-                self.expression(left);
-                self.put(RELATIONS[*relation as usize].1);
-                self.expression(right);
-                self.tokens.push(Token::Keyword("THEN"));
-                self.simple(then);
-                if let Some(otherwise) = otherwise {
-                    self.tokens.push(Token::Keyword("ELSE"));
-                    self.simple(otherwise);
-                }
+                self.condition(*relation, left, right);
+                let end = self.parts(groups, place);
+                self.put_labelled(instruction);
+                return end;
+            }
+            Line::Else => {
+                self.set_early(groups, place);
+                let words = ["FINISH", "ELSE", "START"].map(Token::Keyword);
+                self.statements.push(words.to_vec());
+                return place + 1;
+            }
+            Line::Finish => {
+                self.set_early(groups, place);
+                self.statements.push(vec![Token::Keyword("FINISH")]);
+                return place + 1;
+            }
+        }
+        self.put_labelled(instruction);
+        place + 1
+    }
+
+    /// Sometimes sets labels behind the last instruction of a part.
+    fn set_early(&mut self, groups: &Groups, closing: usize) {
+        let unset = &mut self.unset[groups.behind(closing)];
+        while !unset.is_empty() && self.random.once_in(2) {
+            let label = Token::Decimal(unset.pop().expect("a label"));
+            self.statements.push(vec![label, Token::Symbol(":")]);
+        }
+    }
+
+    fn condition(&mut self, relation: Relation, left: &Expression, right: &Expression) {
+        self.tokens.push(Token::Keyword("IF"));
+        self.expression(left);
+        self.put(RELATIONS[relation as usize].1);
+        self.expression(right);
+        self.tokens.push(Token::Keyword("THEN"));
+    }
+
+    /// Puts what stands behind `%THEN`: mostly the parts themselves where they are such that they may
+    /// stand there, else `%START`. Gives the place of the next line.
+    fn parts(&mut self, groups: &Groups, place: usize) -> usize {
+        let closing = groups.closings[place];
+        let has_else = groups.lines[closing] == Line::Else;
+        let first = groups.lone(place);
+        let second = has_else.then(|| groups.lone(closing));
+        let inside = groups.before[place] + 1..=groups.before[place] + 1 + usize::from(has_else);
+        // a labelled instruction does not stand there
+        let is_labelled = inside.into_iter().any(|it| !self.labels[it].is_empty());
+        match (first, second) {
+            (Some(first), None | Some(Some(_))) if !is_labelled && !self.random.once_in(3) => {
+                self.simple(first);
+                let Some(Some(second)) = second else {
+                    return closing + 1;
+                };
+                self.tokens.push(Token::Keyword("ELSE"));
+                self.simple(second);
+                groups.closings[closing] + 1
+            }
+            _ => {
+                self.tokens.push(Token::Keyword("START"));
+                place + 1
             }
         }
     }

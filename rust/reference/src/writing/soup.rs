@@ -13,8 +13,19 @@ pub fn source(random: &mut Random) -> Vec<u8> {
         statements.push(vec![Token::Keyword("BEGIN")]);
         statements.extend(declarations(random));
     }
-    for _ in 0..random.between(1, 5) {
+    let most = random.pick(&[5, 5, 12]);
+    for _ in 0..random.between(1, most) {
         statements.push(statement(random));
+    }
+    // mostly as many `%FINISH` as there are `%START`
+    let opens = |statement: &&Vec<Token>| statement.ends_with(&[Token::Keyword("START")]);
+    let closes = |statement: &&Vec<Token>| statement.first() == Some(&Token::Keyword("FINISH"));
+    let open = statements.iter().filter(opens).count();
+    let closed = statements.iter().filter(closes).count();
+    for _ in closed..open {
+        if !random.once_in(8) {
+            statements.push(vec![Token::Keyword("FINISH")]);
+        }
     }
     if !random.once_in(4) {
         statements.push(vec![Token::Keyword("ENDOFPROGRAM")]);
@@ -43,7 +54,7 @@ fn statement(random: &mut Random) -> Vec<Token> {
     if random.once_in(4) {
         tokens.extend([some_label(random), Token::Symbol(":")]);
     }
-    match random.below(10) {
+    match random.below(14) {
         0 | 1 => tokens.extend((0..random.between(1, 8)).map(|_| token(random))),
         2 => {
             tokens.push(Token::Keyword("INTEGER"));
@@ -59,11 +70,18 @@ fn statement(random: &mut Random) -> Vec<Token> {
             tokens.push(relation(random));
             expression(random, &mut tokens);
             tokens.push(Token::Keyword("THEN"));
-            simple(random, &mut tokens);
-            if random.once_in(2) {
+            part(random, &mut tokens);
+            if random.once_in(3) {
                 tokens.push(Token::Keyword("ELSE"));
-                simple(random, &mut tokens);
+                part(random, &mut tokens);
             }
+        }
+        10 | 11 => {
+            // a label before it is never good
+            if !random.once_in(4) {
+                tokens.clear();
+            }
+            tokens.extend(words(random.pick(&CLOSINGS)));
         }
         _ => simple(random, &mut tokens),
     }
@@ -73,6 +91,33 @@ fn statement(random: &mut Random) -> Vec<Token> {
         tokens.insert(place, token(random));
     }
     tokens
+}
+
+/// What may close a group, and what nearly does.
+const CLOSINGS: [&str; 10] = [
+    "FINISH",
+    "FINISH",
+    "FINISH",
+    "FINISH",
+    "FINISH ELSE START",
+    "FINISH ELSE START",
+    "FINISH ELSE",
+    "FINISH START",
+    "ELSE START",
+    "START",
+];
+
+/// Keywords, each from a word of a text.
+pub fn words(text: &'static str) -> impl Iterator<Item = Token> {
+    text.split(' ').map(Token::Keyword)
+}
+
+/// What may stand behind `%THEN` and `%ELSE`.
+fn part(random: &mut Random, tokens: &mut Vec<Token>) {
+    match random.below(2) {
+        0 => tokens.push(Token::Keyword("START")),
+        _ => simple(random, tokens),
+    }
 }
 
 fn relation(random: &mut Random) -> Token {
@@ -153,6 +198,10 @@ pub fn keyword(random: &mut Random) -> Token {
             "BEGI",
             "THENC",
             "ENDOFPROGRAMIF",
+            "FINISHELSESTART",
+            "THENSTART",
+            "STARTS",
+            "FINIS",
             "X",
             "CC",
         ]),

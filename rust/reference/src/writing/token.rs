@@ -11,7 +11,10 @@ pub enum Token {
     Stray(u8),
 }
 
-pub const KEYWORDS: [&str; 6] = ["BEGIN", "ENDOFPROGRAM", "INTEGER", "IF", "THEN", "ELSE"];
+#[rustfmt::skip]
+pub const KEYWORDS: [&str; 8] = [
+    "BEGIN", "ENDOFPROGRAM", "INTEGER", "IF", "THEN", "ELSE", "START", "FINISH",
+];
 
 #[rustfmt::skip]
 pub const SYMBOLS: [&str; 22] = [

@@ -4,7 +4,7 @@ use std::ops::RangeInclusive;
 
 use skimp_reference::generate::every_list;
 use skimp_reference::object::{Kind, Name, Order, STOP};
-use skimp_reference::sheet::{Expression, Instruction, Operator, Relation, Sheet, Sign, Simple};
+use skimp_reference::sheet::{Expression, Line, Operator, Relation, Sheet, Sign, Simple};
 use skimp_reference::translate::{translate, Translation};
 use skimp_reference::untranslate::untranslate;
 
@@ -53,11 +53,11 @@ impl Parts {
         all
     }
 
-    /// Every simple instruction of so many orders, on a sheet of `count` instructions.
-    fn simples(&self, orders: usize, count: u32) -> Vec<Simple> {
+    /// Every simple instruction of so many orders, on a sheet of `whole` instructions.
+    fn simples(&self, orders: usize, whole: u32) -> Vec<Simple> {
         match orders {
             0 => Vec::new(),
-            1 if self.jumps => (1..=count + 1).map(Simple::Goto).collect(),
+            1 if self.jumps => (1..=whole + 1).map(Simple::Goto).collect(),
             _ if !self.values => Vec::new(),
             _ => {
                 let values = self.expressions(orders - 1);
@@ -72,50 +72,65 @@ impl Parts {
         }
     }
 
-    fn instructions(&self, orders: usize, count: u32) -> Vec<Instruction> {
-        let simples = self.simples(orders, count).into_iter();
-        let mut all: Vec<_> = simples.map(Instruction::Simple).collect();
-        if !self.jumps {
+    /// Every instruction that is `count` with those in its parts, of so many orders together.
+    fn instructions(&self, orders: usize, count: u32, whole: u32) -> Vec<Vec<Line>> {
+        if count == 1 {
+            let simples = self.simples(orders, whole).into_iter();
+            return simples.map(|simple| vec![Line::Simple(simple)]).collect();
+        }
+        let mut all = Vec::new();
+        if !self.jumps || count == 0 {
             return all;
         }
         for compared in 2..orders {
-            for (left, right) in self.operands(compared) {
-                for first in 1..orders - compared {
-                    // the branch; the JMP before the second
-                    let second = (orders - compared - 1 - first).checked_sub(1);
-                    let seconds: Vec<_> = match second {
-                        None => vec![None],
-                        Some(orders) => self.simples(orders, count).into_iter().map(Some).collect(),
-                    };
-                    for (then, otherwise) in pairs(&self.simples(first, count), &seconds) {
-                        all.push(Instruction::If {
-                            relation: Relation::Equal,
-                            left: left.clone(),
-                            right: right.clone(),
-                            then,
-                            otherwise,
-                        });
-                    }
+            let parts = self.parts(orders - compared - 1, count - 1, whole);
+            for ((left, right), lines) in pairs(&self.operands(compared), &parts) {
+                let line = Line::If {
+                    relation: Relation::Equal,
+                    left,
+                    right,
+                };
+                all.push([vec![line], lines].concat());
+            }
+        }
+        all
+    }
+
+    /// Every one or two parts that are `count` instructions, of so many orders together, with the
+    /// lines that close them.
+    fn parts(&self, orders: usize, count: u32, whole: u32) -> Vec<Vec<Line>> {
+        let close = |lines: Vec<Line>| [lines, vec![Line::Finish]].concat();
+        let alone = self.lists(orders, count, whole).into_iter();
+        let mut all: Vec<_> = alone.map(close).collect();
+        for first in 1..orders {
+            for in_first in 1..count {
+                let firsts = self.lists(first, in_first, whole);
+                // the SKIP
+                let seconds = self.lists(orders - first - 1, count - in_first, whole);
+                for (first, second) in pairs(&firsts, &seconds) {
+                    all.push(close([first, vec![Line::Else], second].concat()));
                 }
             }
         }
         all
     }
 
-    /// Every list of the last `left` instructions of `count`, of so many orders.
-    fn lists(&self, orders: usize, left: u32, count: u32) -> Vec<Vec<Instruction>> {
-        if left == 0 {
-            return if orders == 0 {
-                vec![Vec::new()]
-            } else {
-                Vec::new()
+    /// Every list that is `count` instructions of the whole, of so many orders.
+    fn lists(&self, orders: usize, count: u32, whole: u32) -> Vec<Vec<Line>> {
+        if count == 0 || orders == 0 {
+            return match (orders, count) {
+                (0, 0) => vec![Vec::new()],
+                _ => Vec::new(),
             };
         }
         let mut all = Vec::new();
         for first in 1..=orders {
-            let rests = self.lists(orders - first, left - 1, count);
-            for (first, rest) in pairs(&self.instructions(first, count), &rests) {
-                all.push([vec![first], rest].concat());
+            for in_first in 1..=count {
+                let firsts = self.instructions(first, in_first, whole);
+                let rests = self.lists(orders - first, count - in_first, whole);
+                for (first, rest) in pairs(&firsts, &rests) {
+                    all.push([first, rest].concat());
+                }
             }
         }
         all
@@ -124,9 +139,9 @@ impl Parts {
     /// Every sheet of so many orders before STOP.
     fn sheets(&self, orders: usize) -> Vec<Sheet> {
         let lists = (0..=orders as u32).flat_map(|count| self.lists(orders, count, count));
-        let sheet = |instructions| Sheet {
+        let sheet = |lines| Sheet {
             variables: self.variables,
-            instructions,
+            lines,
         };
         lists.map(sheet).collect()
     }
@@ -177,9 +192,10 @@ fn to_each(names: &[Name], addresses: RangeInclusive<u32>) -> Vec<Order> {
 }
 
 /// How many sheets have so many orders before STOP, worked out by hand. With g jumps, two plain
-/// operands and 4 * 3^(m-2) instructions SET and SEND of m orders, an instruction of one to five
-/// orders is one of g, 4, 12, 36 + 4g and 124 + 12g, and g is one more than the instructions.
-const SHEETS: [usize; 6] = [1, 2, 13, 100, 949, 11_076];
+/// operands and 4 * 3^(m-2) instructions SET and SEND of m orders, those of four orders are 36 of one
+/// instruction, 88 + 4g of two, 12g^2 of three and g^4 of four; of five orders 108, 312 + 16 + 12g,
+/// 36g^2 + 48g + 12g^2, 16g^3 and g^5; and g is one more than the instructions.
+const SHEETS: [usize; 6] = [1, 2, 13, 100, 953, 11_208];
 
 #[test]
 fn without_temporaries() {
@@ -201,7 +217,10 @@ fn without_temporaries() {
             alphabet.push(order(name, Kind::Word, 2));
             alphabet.push(order(name, Kind::Number, 0));
         }
-        alphabet.extend(to_each(&[Name::Jmp, Name::Bne], 0..=orders as u32));
+        alphabet.extend(to_each(
+            &[Name::Jmp, Name::Skip, Name::Bne],
+            0..=orders as u32,
+        ));
         assert_eq!(parts.check(&alphabet, orders, 0), sheets);
     }
 }
@@ -222,10 +241,11 @@ fn jumps() {
     ];
     alphabet.extend(to_each(&[Name::Jmp], 0..=6));
     alphabet.extend(to_each(&[Name::Bne], 3..=6));
-    // six jumps; a jump after THEN and two others; jumps after THEN and ELSE
+    alphabet.extend(to_each(&[Name::Skip], 4..=6));
+    // six jumps; an IF with one of three jumps, two or all of them as its part; a jump in each part
     assert_eq!(
         parts.check(&alphabet, 6, 0),
-        7_usize.pow(6) + 3 * 4 * 4 * 4 + 2 * 2
+        7_usize.pow(6) + (3 + 2 + 1) * 5 * 5 * 5 + 4 * 4
     );
 }
 

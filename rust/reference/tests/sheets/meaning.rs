@@ -11,7 +11,7 @@ fn meaning() {
     let source = "meaning, seed 14";
     let mut random = Random(14);
     let (mut census, mut runs) = (Census::default(), Runs::default());
-    for round in 0..4000 {
+    for round in 0..6000 {
         let sheet = match round % 8 {
             0 => Plan::large_sheet(&mut random),
             _ => Plan::small_sheet(&mut random),
@@ -30,7 +30,7 @@ fn meaning() {
         );
         census.add(&sheet, &translation);
     }
-    census.every_form(source, 100);
+    census.every_form(source, 50);
     runs.every_way(source, 10);
     assert!(runs.runs >= 40_000, "{} runs", runs.runs);
 }

@@ -2,8 +2,8 @@
 
 use skimp_reference::interpret::{Ending, Meaning};
 use skimp_reference::object::{Kind, Name, Order};
-use skimp_reference::sheet::{Expression, Instruction, Operator, Relation, Sheet, Sign, Simple};
-use skimp_reference::translate::{translate, Translation};
+use skimp_reference::sheet::{Expression, Line, Operator, Relation, Sheet, Sign, Simple};
+use skimp_reference::translate::{translate, without_limits, Translation};
 use skimp_reference::untranslate::untranslate;
 
 fn word(word: u32) -> Expression {
@@ -22,16 +22,34 @@ fn unary(sign: Sign, operand: Expression) -> Expression {
     Expression::Unary(sign, Box::new(operand))
 }
 
-fn set(word: u32, value: Expression) -> Instruction {
-    Instruction::Simple(Simple::Set(word, value))
+fn set(word: u32, value: Expression) -> Line {
+    Line::Simple(Simple::Set(word, value))
 }
 
-fn send(value: Expression) -> Instruction {
-    Instruction::Simple(Simple::Send(value))
+fn send(value: Expression) -> Line {
+    Line::Simple(Simple::Send(value))
 }
 
-fn goto(instruction: u32) -> Instruction {
-    Instruction::Simple(Simple::Goto(instruction))
+fn goto(instruction: u32) -> Line {
+    Line::Simple(Simple::Goto(instruction))
+}
+
+/// An IF that holds, of three orders.
+fn equal_zeros() -> Line {
+    Line::If {
+        relation: Relation::Equal,
+        left: number(0),
+        right: number(0),
+    }
+}
+
+/// An IF that fails, of three orders.
+fn unequal_zeros() -> Line {
+    Line::If {
+        relation: Relation::Unequal,
+        left: number(0),
+        right: number(0),
+    }
 }
 
 /// Document 01's worked program.
@@ -40,16 +58,18 @@ fn worked() -> Sheet {
     let quotient = binary(Operator::Div, difference, number(2));
     Sheet {
         variables: 2,
-        instructions: vec![
+        lines: vec![
             set(2, number(3)),
             set(3, binary(Operator::Sub, word(2), quotient)),
-            Instruction::If {
+            Line::If {
                 relation: Relation::Greater,
                 left: word(3),
                 right: number(4),
-                then: Simple::Send(word(3)),
-                otherwise: Some(Simple::Goto(4)),
             },
+            send(word(3)),
+            Line::Else,
+            goto(6),
+            Line::Finish,
             send(word(2)),
         ],
     }
@@ -66,8 +86,8 @@ fn worked_program() {
     let sheet = worked();
     assert_eq!(
         sheet.text().replace('\t', " "),
-        "SHEET 2 4\nSET 2 K3\nSET 3 - W2 / - K2 K5 K2\n\
-         IF > W3 K4 THEN SEND W3 ELSE GOTO 4\nSEND W2\n"
+        "SHEET 2 6\nSET 2 K3\nSET 3 - W2 / - K2 K5 K2\nIF > W3 K4\nSTART\nSEND W3\nELSE\n\
+         GOTO 6\nFINISH\nSEND W2\n"
     );
     let translation = translate(&sheet).expect("within the limits");
     let object = include_str!("../../../../examples/worked.box");
@@ -75,18 +95,18 @@ fn worked_program() {
     assert_eq!(untranslate(&translation).as_ref(), Some(&sheet));
 }
 
-/// The counts of the worked program: 2 orders, 9, then LOAD, CMP, BLE and JMP, 2, and STOP.
+/// The counts of the worked program: 2 orders, 9, then LOAD, CMP and BLE, JMP, 2, and STOP.
 #[test]
 fn worked_meaning() {
     let sheet = worked();
     let mut meaning = Meaning::new(&sheet, 1);
-    let counts: Vec<u64> = (0..6)
+    let counts: Vec<u64> = (0..7)
         .map(|_| {
             meaning.advance();
             meaning.count
         })
         .collect();
-    assert_eq!(counts, [2, 11, 15, 17, 18, 18]);
+    assert_eq!(counts, [2, 11, 14, 15, 17, 18, 18]);
     assert_eq!(meaning.variables, [3, 4]);
     assert_eq!(meaning.sent, [3]);
     assert_eq!(meaning.ending, Some(Ending::Stopped));
@@ -96,7 +116,7 @@ fn worked_meaning() {
 fn worth(value: Expression) -> (Result<i32, Ending>, u64) {
     let sheet = Sheet {
         variables: 1,
-        instructions: vec![set(2, value)],
+        lines: vec![set(2, value)],
     };
     let mut meaning = Meaning::new(&sheet, 0);
     meaning.advance();
@@ -164,43 +184,49 @@ fn comparison_never_wraps() {
     ] {
         let sheet = Sheet {
             variables: 0,
-            instructions: vec![Instruction::If {
-                relation,
-                left: number(2147483647),
-                right: least(),
-                then: Simple::Send(number(1)),
-                otherwise: Some(Simple::Send(number(0))),
-            }],
+            lines: vec![
+                Line::If {
+                    relation,
+                    left: number(2147483647),
+                    right: least(),
+                },
+                send(number(1)),
+                Line::Else,
+                send(number(0)),
+                Line::Finish,
+            ],
         };
         let mut meaning = Meaning::new(&sheet, 1);
         meaning.advance();
-        // LOAD, STR, LOAD, NOT, STR, LOAD, CMP and the branch; LOAD and SEND; the first jumps
+        assert_eq!((meaning.count, meaning.sent.len()), (8, 0));
+        meaning.advance();
+        // LOAD, STR, LOAD, NOT, STR, LOAD, CMP and the branch; LOAD and SEND; the first skips
         assert_eq!(meaning.sent, [i32::from(holds)], "{relation:?}");
         assert_eq!(meaning.count, 10 + u64::from(holds), "{relation:?}");
     }
 }
 
-/// A first u that is a jump leaves the JMP behind it undone.
+/// A first part that ends in a jump leaves the SKIP behind it undone.
 #[test]
 fn a_jump_before_else() {
     let sheet = Sheet {
         variables: 0,
-        instructions: vec![
-            Instruction::If {
-                relation: Relation::Equal,
-                left: number(0),
-                right: number(0),
-                then: Simple::Goto(3),
-                otherwise: Some(Simple::Goto(2)),
-            },
-            goto(2),
+        lines: vec![
+            equal_zeros(),
+            goto(5),
+            Line::Else,
+            goto(4),
+            Line::Finish,
+            goto(4),
         ],
     };
     assert_eq!(
         orders(&sheet),
-        "BOX 0 0 8; LOAD K 0; CMP K 0; BNE A 5; JMP A 7; JMP A 6; JMP A 6; JMP A 6; STOP - 0"
+        "BOX 0 0 8; LOAD K 0; CMP K 0; BNE A 5; JMP A 7; SKIP A 6; JMP A 6; JMP A 6; STOP - 0"
     );
     let mut meaning = Meaning::new(&sheet, 0);
+    meaning.advance();
+    assert_eq!((meaning.count, meaning.ending), (3, None));
     meaning.advance();
     assert_eq!((meaning.count, meaning.ending), (4, None));
     meaning.advance();
@@ -211,7 +237,7 @@ fn a_jump_before_else() {
 fn small_translations() {
     let no_instructions = Sheet {
         variables: 5,
-        instructions: Vec::new(),
+        lines: Vec::new(),
     };
     assert_eq!(no_instructions.text(), "SHEET\t5\t0\n");
     assert_eq!(orders(&no_instructions), "BOX 5 0 1; STOP - 0");
@@ -220,7 +246,7 @@ fn small_translations() {
     let two = || binary(Operator::Sub, number(2), one());
     let nested = Sheet {
         variables: 1,
-        instructions: vec![send(binary(Operator::Add, two(), two()))],
+        lines: vec![send(binary(Operator::Add, two(), two()))],
     };
     assert_eq!(
         orders(&nested),
@@ -247,9 +273,11 @@ fn read_back(orders: &str) -> Option<String> {
             "LOAD" => Name::Load,
             "SUB" => Name::Sub,
             "CMP" => Name::Cmp,
+            "BE" => Name::Be,
             "BNE" => Name::Bne,
             "STR" => Name::Str,
             "JMP" => Name::Jmp,
+            "SKIP" => Name::Skip,
             "SEND" => Name::Send,
             "STOP" => Name::Stop,
             _ => panic!("{record}"),
@@ -266,30 +294,137 @@ fn read_back(orders: &str) -> Option<String> {
     Some(text.trim_end().replace('\t', " ").replace('\n', "; "))
 }
 
-/// "Taking a JMP after an IF for its ELSE wherever the branch leads" is a slip.
+/// "Taking a JMP after an IF for its ELSE wherever the branch leads" is a slip. Only a SKIP is the
+/// jump over an ELSE, and only where the branch leads right past it.
 #[test]
 fn a_jump_after_if() {
     let sheet = |orders| read_back(orders).unwrap_or_default();
     // the branch leads to the JMP
     assert_eq!(
         sheet("LOAD K 0; CMP K 0; BNE A 5; LOAD K 1; SEND - 0; JMP A 7; JMP A 0; STOP - 0"),
-        "SHEET 0 3; IF = K0 K0 THEN SEND K1; GOTO 4; GOTO 1"
+        "SHEET 0 4; IF = K0 K0; START; SEND K1; FINISH; GOTO 5; GOTO 1"
     );
-    // it leads past the JMP, which leads over the order after it
+    // it leads past the JMP, which is the last instruction of the part, wherever that leads
     assert_eq!(
         sheet("LOAD K 0; CMP K 0; BNE A 6; LOAD K 1; SEND - 0; JMP A 7; JMP A 0; STOP - 0"),
-        "SHEET 0 1; IF = K0 K0 THEN SEND K1 ELSE GOTO 1"
+        "SHEET 0 4; IF = K0 K0; START; SEND K1; GOTO 5; FINISH; GOTO 1"
+    );
+    // it leads past the SKIP, which leads over the order after it
+    assert_eq!(
+        sheet("LOAD K 0; CMP K 0; BNE A 6; LOAD K 1; SEND - 0; SKIP A 7; JMP A 0; STOP - 0"),
+        "SHEET 0 3; IF = K0 K0; START; SEND K1; ELSE; GOTO 1; FINISH"
     );
     for orders in [
-        // it leads past the JMP, which leads elsewhere; or past another order; or further
-        "LOAD K 0; CMP K 0; BNE A 6; LOAD K 1; SEND - 0; JMP A 6; JMP A 0; STOP - 0",
-        "LOAD K 0; CMP K 0; BNE A 6; LOAD K 1; SEND - 0; LOAD K 1; SEND - 0; STOP - 0",
-        "LOAD K 0; CMP K 0; BNE A 7; LOAD K 1; SEND - 0; JMP A 7; JMP A 0; STOP - 0",
+        // it leads past the SKIP, which leads elsewhere: to nothing, back, or into an instruction
+        "LOAD K 0; CMP K 0; BNE A 6; LOAD K 1; SEND - 0; SKIP A 6; JMP A 0; STOP - 0",
+        "LOAD K 0; CMP K 0; BNE A 6; LOAD K 1; SEND - 0; SKIP A 0; JMP A 0; STOP - 0",
+        "LOAD K 0; CMP K 0; BNE A 6; LOAD K 1; SEND - 0; SKIP A 7; LOAD K 1; SEND - 0; STOP - 0",
+        // it leads to the SKIP, past what follows it, or into an instruction
+        "LOAD K 0; CMP K 0; BNE A 5; LOAD K 1; SEND - 0; SKIP A 7; JMP A 0; STOP - 0",
+        "LOAD K 0; CMP K 0; BNE A 7; LOAD K 1; SEND - 0; SKIP A 7; JMP A 0; STOP - 0",
         "LOAD K 0; CMP K 0; BNE A 4; LOAD K 1; SEND - 0; JMP A 7; JMP A 0; STOP - 0",
-        // the jump of ELSE has no second instruction
-        "LOAD K 0; CMP K 0; BNE A 6; LOAD K 1; SEND - 0; JMP A 6; STOP - 0",
+        // the first part or the second has no instruction, or the only one
+        "LOAD K 0; CMP K 0; BNE A 4; SKIP A 5; JMP A 0; STOP - 0",
+        "LOAD K 0; CMP K 0; BNE A 6; LOAD K 1; SEND - 0; SKIP A 6; STOP - 0",
+        "LOAD K 0; CMP K 0; BNE A 3; STOP - 0",
+        "LOAD K 0; CMP K 0; BNE A 0; JMP A 0; STOP - 0",
+        // a JMP leads to the SKIP; a SKIP stands alone
+        "LOAD K 0; CMP K 0; BNE A 5; JMP A 4; SKIP A 6; JMP A 0; STOP - 0",
+        "SKIP A 1; STOP - 0",
+        "SKIP A 0; STOP - 0",
     ] {
         assert_eq!(read_back(orders), None, "{orders}");
+    }
+}
+
+/// Parts in parts: branches and SKIPs lead to the order right after their part, be it a SKIP.
+#[test]
+fn nested_parts() {
+    let sheet = Sheet {
+        variables: 0,
+        lines: vec![
+            equal_zeros(),
+            equal_zeros(),
+            unequal_zeros(),
+            send(number(1)),
+            Line::Finish,
+            Line::Else,
+            send(number(2)),
+            Line::Finish,
+            Line::Else,
+            goto(8),
+            Line::Finish,
+            send(number(3)),
+            goto(1),
+        ],
+    };
+    let text = "SHEET 0 8; IF = K0 K0; START; IF = K0 K0; START; IF # K0 K0; START; SEND K1; \
+                FINISH; ELSE; SEND K2; FINISH; ELSE; GOTO 8; FINISH; SEND K3; GOTO 1";
+    let expected = "LOAD K 0; CMP K 0; BNE A 15; LOAD K 0; CMP K 0; BNE A 12; LOAD K 0; CMP K 0; \
+                    BE A 11; LOAD K 1; SEND - 0; SKIP A 14; LOAD K 2; SEND - 0; SKIP A 16; \
+                    JMP A 18; LOAD K 3; SEND - 0; JMP A 0; STOP - 0";
+    assert_eq!(orders(&sheet), format!("BOX 0 0 20; {expected}"));
+    assert_eq!(read_back(expected).as_deref(), Some(text));
+    for (order, other) in [
+        // led on from SKIP to SKIP, or past one
+        ("BE A 11", "BE A 14"),
+        ("BE A 11", "BE A 16"),
+        ("SKIP A 14", "SKIP A 16"),
+        ("SKIP A 14", "SKIP A 15"),
+        // parts that are not in each other
+        ("BNE A 12", "BNE A 16"),
+        ("BE A 11", "BE A 12"),
+        ("SKIP A 16", "SKIP A 20"),
+        // a jump to a SKIP
+        ("JMP A 18", "JMP A 14"),
+        // JMP for SKIP, and SKIP for JMP
+        ("SKIP A 14", "JMP A 14"),
+        ("JMP A 18", "SKIP A 18"),
+        ("JMP A 0", "SKIP A 0"),
+    ] {
+        let orders = expected.replacen(order, other, 1);
+        assert_eq!(read_back(&orders), None, "{orders}");
+    }
+    // a JMP for the outer SKIP is an instruction, so that there is no second part
+    let orders = expected.replacen("SKIP A 16", "JMP A 16", 1);
+    assert_eq!(
+        read_back(&orders).unwrap_or_default(),
+        "SHEET 0 9; IF = K0 K0; START; IF = K0 K0; START; IF # K0 K0; START; SEND K1; FINISH; \
+         ELSE; SEND K2; FINISH; GOTO 8; FINISH; GOTO 9; SEND K3; GOTO 1"
+    );
+    // the counts: two answers, and one that fails, with both SKIPs on its way
+    let mut meaning = Meaning::new(&sheet, 9);
+    let counts: Vec<u64> = (0..5)
+        .map(|_| {
+            meaning.advance();
+            meaning.count
+        })
+        .collect();
+    assert_eq!(counts, [3, 6, 11, 13, 14]);
+    assert_eq!(meaning.sent, [3]);
+}
+
+/// "Sheets keep this limit": sixteen IFs may stand in each other.
+#[test]
+fn most_levels() {
+    for (levels, is_sheet) in [(15, true), (16, true), (17, false)] {
+        for has_else in [false, true] {
+            let mut lines: Vec<_> = (0..levels).map(|_| equal_zeros()).collect();
+            lines.push(goto(1));
+            for _ in 0..levels {
+                if has_else {
+                    lines.extend([Line::Else, goto(1)]);
+                }
+                lines.push(Line::Finish);
+            }
+            let sheet = Sheet {
+                variables: 0,
+                lines,
+            };
+            assert_eq!(translate(&sheet).is_some(), is_sheet, "{levels}");
+            let back = untranslate(&without_limits(&sheet));
+            assert_eq!(back, is_sheet.then_some(sheet), "{levels}");
+        }
     }
 }
 

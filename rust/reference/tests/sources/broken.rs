@@ -37,7 +37,7 @@ fn wrong_place<const NUMBER: u32>(source: &[u8], buffer: &mut [u8]) -> Reply {
 
 #[test]
 fn wrong_places() {
-    let readers: [Call; 12] = [
+    let readers: [Call; 14] = [
         wrong_place::<0>,
         wrong_place::<1>,
         wrong_place::<2>,
@@ -50,6 +50,9 @@ fn wrong_places() {
         wrong_place::<9>,
         wrong_place::<10>,
         wrong_place::<11>,
+        // 12 is the buffer's, which is never too short here
+        wrong_place::<0>,
+        wrong_place::<13>,
     ];
     for (number, reader) in readers.into_iter().enumerate() {
         found(&format!("the place of {number}"), reader);
@@ -70,7 +73,7 @@ fn wrong_number<const NUMBER: u32, const OTHER: u32>(source: &[u8], buffer: &mut
 
 #[test]
 fn wrong_numbers() {
-    let readers: [Call; 11] = [
+    let readers: [Call; 13] = [
         wrong_number::<1, 2>,
         wrong_number::<2, 1>,
         wrong_number::<3, 4>,
@@ -82,6 +85,8 @@ fn wrong_numbers() {
         wrong_number::<9, 11>,
         wrong_number::<10, 7>,
         wrong_number::<11, 9>,
+        wrong_number::<13, 7>,
+        wrong_number::<13, 9>,
     ];
     for (place, reader) in readers.into_iter().enumerate() {
         found(&format!("number {}", place + 1), reader);
@@ -232,4 +237,87 @@ fn wrong_limits() {
     found("32 temporaries", too_few_temporaries);
     found("1,024 orders", too_few_orders);
     found("16,384 bytes", too_short_source);
+}
+
+/// The source with its statements changed, where they end with a newline.
+fn with_lines(source: &[u8], change: fn(&str) -> String) -> Vec<u8> {
+    match std::str::from_utf8(source) {
+        Ok(text) => change(text).into_bytes(),
+        Err(_) => source.to_vec(),
+    }
+}
+
+/// The jump over an ELSE is a JMP, as it was without groups.
+fn jumps_over_else(source: &[u8], buffer: &mut [u8]) -> Reply {
+    let mut text = vec![0; buffer.len()];
+    let reply = compile(source, &mut text);
+    if reply.number != 0 {
+        return reply;
+    }
+    let text = String::from_utf8_lossy(&text[..reply.value as usize]).replace("SKIP", "JMP");
+    buffer[..text.len()].copy_from_slice(text.as_bytes());
+    Reply {
+        value: text.len() as u32,
+        ..reply
+    }
+}
+
+/// A label behind a first part leads to the second part.
+fn leads_to_second_part(source: &[u8], buffer: &mut [u8]) -> Reply {
+    let moved = with_lines(source, |text| {
+        let mut lines: Vec<&str> = text.split('\n').collect();
+        for place in 1..lines.len() {
+            let is_label = lines[place - 1].strip_suffix(':').is_some_and(|label| {
+                !label.is_empty() && label.bytes().all(|byte| byte.is_ascii_digit())
+            });
+            if is_label && lines[place].replace([' ', '%'], "") == "FINISHELSESTART" {
+                lines.swap(place - 1, place);
+            }
+        }
+        lines.join("\n")
+    });
+    compile(&moved, buffer)
+}
+
+/// An empty group is taken, as if it were not there.
+fn takes_empty_groups(source: &[u8], buffer: &mut [u8]) -> Reply {
+    let filled = with_lines(source, |text| {
+        text.replace("%THENSTART\n%FINISH\n", "%THENSTART\nSEND(1)\n%FINISH\n")
+    });
+    compile(&filled, buffer)
+}
+
+/// The seventeenth level is refused as if it were no form.
+fn levels_are_a_form(source: &[u8], buffer: &mut [u8]) -> Reply {
+    let reply = compile(source, buffer);
+    let levels = source.windows(5).filter(|part| part == b"START").count();
+    match reply.number == 11 && levels > 16 {
+        true => Reply { number: 7, ..reply },
+        false => reply,
+    }
+}
+
+/// A label that is never set is found before a group that is open.
+fn finds_labels_first(source: &[u8], buffer: &mut [u8]) -> Reply {
+    let reply = compile(source, buffer);
+    if reply.number != 13 {
+        return reply;
+    }
+    let closed = with_lines(source, |text| {
+        text.replace("%ENDOFPROGRAM", "%FINISH\n%ENDOFPROGRAM")
+    });
+    let other = compile(&closed, buffer);
+    match other.number {
+        9 => other,
+        _ => reply,
+    }
+}
+
+#[test]
+fn wrong_groups() {
+    found("a JMP over an ELSE", jumps_over_else);
+    found("a label leads to the second part", leads_to_second_part);
+    found("empty groups are taken", takes_empty_groups);
+    found("the seventeenth level is 7", levels_are_a_form);
+    found("9 comes before 13", finds_labels_first);
 }

@@ -72,7 +72,7 @@ fn labels() {
         ("->4;A=1;4:", "GOTO 3; SET 2 K1"),
         (
             "%IF A=1 %THEN ->4 %ELSE ->5; 5: A=1;4:",
-            "IF = W2 K1 THEN GOTO 3 ELSE GOTO 2; SET 2 K1",
+            "IF = W2 K1; START; GOTO 5; ELSE; GOTO 4; FINISH; SET 2 K1",
         ),
         ("1:", "SHEET 3 0"),
         // never set: the first such jump

@@ -226,7 +226,7 @@ fn most_orders() {
     assert_eq!(program(510, "A=1-1"), "SHEET 1 511");
     assert_eq!(program(510, "A=1-1-1"), "11 at 513");
     assert_eq!(program(510, "%IF 1=1 %THEN ->1;1:"), "11 at 513");
-    assert_eq!(program(509, "%IF 1=1 %THEN ->1;1:"), "SHEET 1 510");
+    assert_eq!(program(509, "%IF 1=1 %THEN ->1;1:"), "SHEET 1 511");
     assert_eq!(program(509, "%IF 1=1 %THEN ->1 %ELSE ->1;1:"), "11 at 512");
     // other refusals of the statement that passes the limit, and of others
     assert_eq!(program(511, "A=X"), "8 at 514");

@@ -6,6 +6,7 @@ mod checks;
 mod chunks;
 mod compare;
 mod forms;
+mod groups;
 mod limits;
 mod round_trip;
 mod splitting;
@@ -58,7 +59,7 @@ fn worked_program() {
     let sheet = read(source.as_bytes()).expect("a program");
     assert_eq!(
         sheet.text(),
-        "SHEET\t2\t4\nSET\t2\tK3\nSET\t3\t-\tW2\t/\t-\tK2\tK5\tK2\n\
-         IF\t>\tW3\tK4\tTHEN\tSEND\tW3\tELSE\tGOTO\t4\nSEND\tW2\n"
+        "SHEET\t2\t6\nSET\t2\tK3\nSET\t3\t-\tW2\t/\t-\tK2\tK5\tK2\nIF\t>\tW3\tK4\nSTART\n\
+         SEND\tW3\nELSE\nGOTO\t6\nFINISH\nSEND\tW2\n"
     );
 }

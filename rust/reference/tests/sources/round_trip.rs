@@ -30,7 +30,11 @@ fn spelled_sheets() {
         check(&mut census, &sheet, &source);
     }
     assert_eq!(census.sheets, 100_000);
-    census.every_form("spelled sheets", 500);
+    census.every_form("spelled sheets", 200);
+    for depth in 0..=16 {
+        let count = census.with_depth(depth);
+        assert!(count >= 10, "{count} sheets with {depth} levels");
+    }
     assert!(census.with_instructions(0) >= 1000);
     for variables in [0, 1, 63, 64] {
         assert!(census.with_variables(variables) >= 1000, "V {variables}");

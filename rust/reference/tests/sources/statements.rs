@@ -76,11 +76,11 @@ fn letters() {
         ("A = 1%1", "SET 2 K11"),
         ("%A = 1", "5 at 3"),
         ("%IFA=B%THENA=1", "5 at 3"),
-        ("%IF A=B%THEN A=1", "IF = W2 W3 THEN SET 2 K1"),
+        ("%IF A=B%THEN A=1", "IF = W2 W3; START; SET 2 K1; FINISH"),
         ("%I F A=B %THEN A=1", "5 at 3"),
         (
             "%if(A)=B %th %en A=1 %el%se ->1 ;1:",
-            "IF = W2 W3 THEN SET 2 K1 ELSE GOTO 2",
+            "IF = W2 W3; START; SET 2 K1; ELSE; GOTO 4; FINISH",
         ),
         ("send(a)", "SEND W2"),
         ("S E N D(A)", "SEND W2"),
@@ -98,7 +98,10 @@ fn quotes() {
         ("A = '!'", "SET 2 K33"),
         ("A = '\n'", "SET 2 K10"),
         ("A = '%if'", "SET 2 K2451814"),
-        ("%IF A = '\n' %THEN B = 1", "IF = W2 K10 THEN SET 3 K1"),
+        (
+            "%IF A = '\n' %THEN B = 1",
+            "IF = W2 K10; START; SET 3 K1; FINISH",
+        ),
         // a `%` in quotes marks nothing behind them, nor one before them inside
         ("A = '%'%C\n+B", "SET 2 + K37 W3"),
         ("A = '%'+B", "SET 2 + K37 W3"),
@@ -188,9 +191,18 @@ fn continuation() {
         ("%BEGIN;'%C", "3 at 2"),
     ]);
     check_third(&[
-        ("%IF A = 1 %THEN%C\n B = 2", "IF = W2 K1 THEN SET 3 K2"),
-        ("%IF A = 1 %THEN %C\n B = 2", "IF = W2 K1 THEN SET 3 K2"),
-        ("%IF A = 1 %THENC\n B = 2", "IF = W2 K1 THEN SET 3 K2"),
+        (
+            "%IF A = 1 %THEN%C\n B = 2",
+            "IF = W2 K1; START; SET 3 K2; FINISH",
+        ),
+        (
+            "%IF A = 1 %THEN %C\n B = 2",
+            "IF = W2 K1; START; SET 3 K2; FINISH",
+        ),
+        (
+            "%IF A = 1 %THENC\n B = 2",
+            "IF = W2 K1; START; SET 3 K2; FINISH",
+        ),
         ("A = 1%C\n2", "SET 2 K12"),
         ("A = C%C\nA%C\nT *%C\n* 2", "SET 2 ** W4 K2"),
         ("A = 'A'%C\n'B'", "SET 2 K4269890"),

@@ -17,3 +17,5 @@ impl Input {
 
 /// The orders before STOP.
 pub const MOST_ORDERS: usize = 1023;
+/// How many IFs may stand in each other.
+pub const MOST_LEVELS: usize = 16;

@@ -1,12 +1,14 @@
 //! Objects beside those of the sources, most of them such as no source has.
 
-use crate::inputs::{Input, MOST_ORDERS};
+use crate::inputs::{Input, MOST_LEVELS, MOST_ORDERS};
 
 pub fn all() -> Vec<Input> {
     vec![
         object("jumps to the end", jumps(|_| MOST_ORDERS)),
         object("jumps turned", jumps(|place| MOST_ORDERS - place)),
         object("far conditions", far_conditions()),
+        object("inner conditions", inner_conditions()),
+        object("SKIPs in a row", skips()),
         object("chain of OR", chain("OR K 0")),
         object("chain of SHL", chain("SHL K 2147483647")),
         object("chain of NEG", chain("NEG - 0")),
@@ -33,9 +35,45 @@ fn far_conditions() -> Vec<String> {
         let past = 4 * (number + 1);
         let far = 4 * ((number + count / 2) % count);
         let text = format!("LOAD D 2;CMP D 2;BNE A {past};JMP A {far}");
-        text.split(';').map(str::to_string).collect::<Vec<_>>()
+        orders(&text)
     };
     (0..count).flat_map(condition).collect()
+}
+
+/// Conditions without ELSE in each other, all parts ending together, as often as fits.
+fn inner_conditions() -> Vec<String> {
+    let size = 3 * MOST_LEVELS + 1;
+    let nest = |number: usize| {
+        let end = size * (number + 1);
+        let condition = format!("LOAD D 2;CMP D 2;BNE A {end};").repeat(MOST_LEVELS);
+        orders(&format!("{condition}JMP A 0"))
+    };
+    (0..MOST_ORDERS / size).flat_map(nest).collect()
+}
+
+/// Conditions in the first parts of each other, so that each SKIP leads to the next one, as often as
+/// fits.
+fn skips() -> Vec<String> {
+    // a SKIP and a jump behind each part
+    let size = 5 * MOST_LEVELS + 1;
+    let nest = |number: usize| {
+        let first = size * number;
+        let innermost = first + 3 * MOST_LEVELS + 1;
+        let branch = |level: usize| {
+            let part = innermost + 2 * (MOST_LEVELS - 1 - level);
+            format!("LOAD D 2;CMP D 2;BNE A {};", part + 1)
+        };
+        let skip = |level: usize| format!(";SKIP A {};JMP A 0", innermost + 2 * level + 2);
+        let open: String = (0..MOST_LEVELS).map(branch).collect();
+        let close: String = (0..MOST_LEVELS).map(skip).collect();
+        orders(&format!("{open}JMP A 0{close}"))
+    };
+    (0..MOST_ORDERS / size).flat_map(nest).collect()
+}
+
+/// The orders of a text that parts them by `;`.
+fn orders(text: &str) -> Vec<String> {
+    text.split(';').map(str::to_string).collect()
 }
 
 /// One instruction of all orders, the same over and over.

@@ -66,7 +66,7 @@ fn expression(depth: usize, used: usize, orders: &mut Vec<String>) {
     orders.push(format!("{} D {right}", NODES[turn % NODES.len()]));
 }
 
-fn programs() -> [Program; 3] {
+fn programs() -> [Program; 4] {
     let mut sum = Vec::new();
     expression(TEMPORARIES - 1, 0, &mut sum);
     sum.push(format!("STR D {TOTAL}"));
@@ -75,6 +75,10 @@ fn programs() -> [Program; 3] {
         sends.push(format!("LOAD D {word}"));
         sends.push("SEND - 0".to_string());
     }
+    // a condition that holds in the first part of another, so that two SKIPs come in a row
+    let groups = "LOAD D 2;CMP K 0;BLT A 12;LOAD D 2;CMP K 0;BLT A 9;LOAD D 2;STR D 3;SKIP A 11;\
+                  LOAD K 0;STR D 3;SKIP A 14;LOAD K 1;STR D 3";
+    let groups = groups.split(';').map(str::to_string).collect();
     [
         Program {
             name: "counting",
@@ -84,6 +88,11 @@ fn programs() -> [Program; 3] {
         Program {
             name: "expression",
             orders: repeat(sum, 80_000),
+            output: 0,
+        },
+        Program {
+            name: "groups",
+            orders: repeat(groups, 1_000_000),
             output: 0,
         },
         Program {

@@ -1,5 +1,5 @@
-//! Sources: a small program, one of the most bytes with 64 long names, a random one, and those
-//! found to cost most for a byte or most against the reference.
+//! Sources: a small program, one of the most bytes with 64 long names, a random one, groups in groups,
+//! and those found to cost most for a byte or most against the reference.
 
 use skimp_reference::generate::Plan;
 use skimp_reference::random::Random;
@@ -7,7 +7,7 @@ use skimp_reference::source::MOST_SOURCE;
 use skimp_reference::writing::program::write;
 use skimp_reference::writing::spelling::Style;
 
-use crate::inputs::{Input, MOST_ORDERS};
+use crate::inputs::{Input, MOST_LEVELS, MOST_ORDERS};
 
 const MOST_LABELS: usize = 64;
 const MOST_VARIABLES: usize = 64;
@@ -27,6 +27,8 @@ pub fn all() -> Vec<Input> {
         Input::new("jumps", jumps()),
         Input::new("conditions", conditions("", 4)),
         Input::new("with ELSE", conditions("%ELSE->1", 6)),
+        Input::new("groups", with_a(&groups())),
+        Input::new("deep groups", with_a(&deep_groups())),
         Input::new("chains", with_a(&chains("A=A", "-A"))),
         Input::new("constants", with_a(&chains("A='zzzz'", "!!'zzzz'"))),
         Input::new("nested", with_a(&nested())),
@@ -124,6 +126,31 @@ fn jumps() -> String {
 fn conditions(otherwise: &str, orders: usize) -> String {
     let condition = format!("%IF A=A%THEN->1{otherwise}\n");
     with_a(&format!("1:{}", condition.repeat(MOST_ORDERS / orders)))
+}
+
+/// Groups with a second one behind each, of ten orders, one after the other.
+fn groups() -> String {
+    let group = "%IF A=A%THENSTART\nA=A\n->1\n%FINISHELSESTART\nA=A\n->1\n%FINISH\n";
+    format!("1:{}", group.repeat(MOST_ORDERS / 10))
+}
+
+/// Groups in each other as deep as may be, each in the second one of the group around it, and labels
+/// behind the first ones, which all lead behind the outermost.
+fn deep_groups() -> String {
+    let deep = |number: usize| {
+        let label = |level| 1 + number * MOST_LEVELS + level;
+        let open = |level| match label(level) {
+            label if label <= MOST_LABELS => {
+                format!("%IF A=A%THENSTART\n->1\n{label}:\n%FINISHELSESTART\n")
+            }
+            _ => "%IF A=A%THENSTART\n->1\n%FINISHELSESTART\n".to_string(),
+        };
+        let opened: String = (0..MOST_LEVELS).map(open).collect();
+        format!("{opened}A=A\n{}", "%FINISH\n".repeat(MOST_LEVELS))
+    };
+    // a comparison and its branch, a jump and a SKIP on each level
+    let orders = 5 * MOST_LEVELS + 2;
+    (0..MOST_ORDERS / orders).map(deep).collect()
 }
 
 /// Statements of a first operand and of as many pieces, each of one order, as fit in the cells; and

@@ -75,7 +75,7 @@ fn every_order_on_edges_and_random_words() {
     }
     pairs.extend((0..RANDOM_PAIRS).map(|_| (random.pattern(), random.pattern())));
     let orders = every_order();
-    assert_eq!(orders.len(), 35);
+    assert_eq!(orders.len(), 36);
     for (name, kind) in orders {
         let mut faults = 0;
         let mut clear = 0;

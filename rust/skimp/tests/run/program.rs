@@ -7,7 +7,7 @@ use crate::call::Call;
 pub const WITH_VALUE: [&str; 12] = [
     "LOAD", "ADD", "SUB", "MLT", "DIV", "EXP", "SHL", "SHR", "AND", "OR", "XOR", "CMP",
 ];
-pub const WITH_ADDRESS: [&str; 7] = ["JMP", "BE", "BNE", "BLT", "BLE", "BGT", "BGE"];
+pub const WITH_ADDRESS: [&str; 8] = ["JMP", "SKIP", "BE", "BNE", "BLT", "BLE", "BGT", "BGE"];
 /// STOP is not among them, since it may only be the last order.
 pub const WITH_NOTHING: [&str; 3] = ["NEG", "NOT", "SEND"];
 const NEVER_FAULTING: [&str; 8] = ["LOAD", "ADD", "SUB", "MLT", "AND", "OR", "XOR", "CMP"];

@@ -35,7 +35,7 @@ const MINUS_21: u32 = 21_u32.wrapping_neg();
 fn worked_object_is_that_of_document_01() {
     let orders = "BOX 2 2 21; LOAD K 3; STR D 2; LOAD D 2; STR D 4; LOAD K 2; SUB K 5; DIV K 2; \
                   STR D 5; LOAD D 4; SUB D 5; STR D 3; LOAD D 3; CMP K 4; BLE A 17; LOAD D 3; \
-                  SEND - 0; JMP A 18; JMP A 18; LOAD D 2; SEND - 0; STOP - 0";
+                  SEND - 0; SKIP A 18; JMP A 18; LOAD D 2; SEND - 0; STOP - 0";
     let text = orders.replace("; ", "\n").replace(' ', "\t") + "\n";
     assert_eq!(WORKED, text.as_bytes());
 }

@@ -37,7 +37,7 @@ impl Call {
 const CELLS: usize = 255;
 
 /// What may stand before an expression, and what closes it.
-const FORMS: [(&str, &str); 7] = [
+const FORMS: [(&str, &str); 8] = [
     ("A=", ""),
     ("SEND(", ")"),
     ("%IF ", "=A%THEN A=A"),
@@ -45,6 +45,7 @@ const FORMS: [(&str, &str); 7] = [
     ("%IF A=A %THEN A=", ""),
     ("%IF A=A %THEN SEND(", ")"),
     ("1:%IF A=A %THEN A=A %ELSE SEND(", ")"),
+    ("%IF A=", "%THEN %START\nA=A\n%FINISH"),
 ];
 
 /// What an expression nests, over and over, with what closes it.
@@ -98,9 +99,29 @@ fn statements() -> Vec<String> {
     statements
 }
 
+/// Groups in each other, as deep as may be and deeper, closed or left open, around a long statement.
+fn groups() -> Vec<String> {
+    let mut groups = Vec::new();
+    for levels in [1, 15, 16, 17] {
+        for open in [
+            "%IF A=A %THEN %START\n",
+            "%IF A=A %THEN %START\n->1\n1:\n%FINISH %ELSE %START\n",
+        ] {
+            // a label is set once
+            let open = open.to_string() + &open.replace("1:\n", "").repeat(levels - 1);
+            let chain = "A-(".repeat(31) + "A" + &")".repeat(31);
+            let inside = format!("A={chain}\n");
+            groups.push(open.clone() + &inside);
+            groups.push(open + &inside + &"%FINISH\n".repeat(levels));
+        }
+    }
+    groups
+}
+
 fn sources() -> Vec<Vec<u8>> {
     let program = |text: String| format!("%BEGIN\n%INTEGER A\n{text}\n%ENDOFPROGRAM\n");
-    let mut sources: Vec<String> = statements().into_iter().map(program).collect();
+    let texts = statements().into_iter().chain(groups());
+    let mut sources: Vec<String> = texts.map(program).collect();
     // full tables: names, labels, jumps; and cells in quotes up to the last
     let names = (0..63).map(|number| format!("%INTEGER N{number:0>230}\n"));
     sources.push(format!("%BEGIN\n{}", names.collect::<String>()));
@@ -116,16 +137,17 @@ fn sources() -> Vec<Vec<u8>> {
 }
 
 /// What orders may begin with.
-const STARTS: [&str; 5] = [
+const STARTS: [&str; 6] = [
     "LOAD D 2",
     "",
     "LOAD D 2;CMP K 0;BNE A 1022",
     "LOAD D 2;CMP K 0;BNE A 4;JMP A 0",
+    "LOAD D 2;CMP K 0;BNE A 5;JMP A 0;SKIP A 1023",
     "LOAD D 2;STR D 3;LOAD D 2",
 ];
 
 /// What comes over and over.
-const PARTS: [&str; 16] = [
+const PARTS: [&str; 18] = [
     "NEG - 0",
     "NOT - 0",
     "SUB K 1",
@@ -135,10 +157,12 @@ const PARTS: [&str; 16] = [
     "LOAD D 2",
     "STR D 2",
     "JMP A 0",
+    "SKIP A 1023",
     "BNE A 0",
     "CMP D 2",
     "SEND - 0",
     "LOAD D 2;CMP K 0;BNE A 1023;JMP A 0",
+    "LOAD D 2;CMP K 0;BNE A 1023",
     "STR D 3;LOAD D 2;NEG - 0;STR D 4;LOAD D 3;SUB D 4",
     "STR D 3;STR D 4;LOAD D 3;SUB D 4",
     "STR D 4;LOAD D 3;SUB D 4",
@@ -150,7 +174,7 @@ const ENDS: [&str; 8] = [
     "SEND - 0",
     "",
     "CMP K 0;BNE A 1023;JMP A 0",
-    "CMP K 0;BNE A 1022;JMP A 1023;JMP A 0",
+    "CMP K 0;BNE A 1022;SKIP A 1023;JMP A 0",
     "CMP K 0;BNE A 1022;LOAD K 1;SEND - 0",
     "STR D 4;LOAD D 3;SUB D 4;STR D 2",
     "STR D 4;LOAD D 3;CMP D 4;BNE A 1023;JMP A 0",
@@ -193,6 +217,9 @@ fn objects() -> Vec<Vec<u8>> {
     for depth in 1..=31 {
         objects.extend([0, 1, 2].map(|place| nested(depth, place)));
     }
+    for levels in [1, 15, 16, 17, 200] {
+        objects.extend([inner_parts(levels), skips(levels)]);
+    }
     let mut random = Random(82);
     for _ in 0..300 {
         let sheet = Plan::large_sheet(&mut random);
@@ -202,6 +229,32 @@ fn objects() -> Vec<Vec<u8>> {
         objects.push(translation.text().into_bytes());
     }
     objects
+}
+
+/// Conditions in each other, all of whose parts end together, around a chain of all other orders.
+fn inner_parts(levels: usize) -> Vec<u8> {
+    let mut all = orders(&"LOAD D 2;CMP K 0;BNE A 1023;".repeat(levels));
+    all.push("LOAD D 2".to_string());
+    all.extend(times("NEG - 0", ORDERS - all.len() - 1));
+    all.push("STR D 2".to_string());
+    object(0, &all)
+}
+
+/// Conditions in the first parts of each other, so that each SKIP leads to the next one.
+fn skips(levels: usize) -> Vec<u8> {
+    let levels = levels.min(ORDERS / 5 - 1);
+    let innermost = 3 * levels + 1;
+    let mut all = Vec::new();
+    for level in (0..levels).rev() {
+        let second = innermost + 2 * level + 1;
+        all.extend(orders(&format!("LOAD D 2;CMP K 0;BNE A {second}")));
+    }
+    all.push("JMP A 0".to_string());
+    for level in 0..levels {
+        let past = innermost + 2 * level + 2;
+        all.extend(orders(&format!("SKIP A {past};JMP A 0")));
+    }
+    object(0, &all)
 }
 
 /// The translation of an expression that nests to the right, the orders that are left as a chain in

@@ -69,6 +69,10 @@ fn from_small_sources() {
     assert!(chain.runs.runs >= 100_000, "{name}: {}", chain.runs.runs);
     chain.runs.every_way(name, 10);
     chain.census.every_form(name, 50);
+    for depth in 0..=12 {
+        let count = chain.census.with_depth(depth);
+        assert!(count >= 2, "{name}: {count} programs with {depth} levels");
+    }
 }
 
 /// Sheets of many orders, those that a source can have.

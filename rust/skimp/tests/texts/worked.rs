@@ -6,9 +6,10 @@ const WORKED: &str = "%BEGIN\n%INTEGER A, B\nA = 3 ; B = A - (2 - 5) / 2\n\
                       %IF B > 4 %THEN SEND(B) %ELSE ->1\n1: SEND(A)\n%ENDOFPROGRAM\n";
 const OBJECT: &str = "BOX 2 2 21\nLOAD K 3\nSTR D 2\nLOAD D 2\nSTR D 4\nLOAD K 2\nSUB K 5\n\
                       DIV K 2\nSTR D 5\nLOAD D 4\nSUB D 5\nSTR D 3\nLOAD D 3\nCMP K 4\nBLE A 17\n\
-                      LOAD D 3\nSEND - 0\nJMP A 18\nJMP A 18\nLOAD D 2\nSEND - 0\nSTOP - 0\n";
-const SHEET: &str = "SHEET 2 4\nSET 2 K3\nSET 3 - W2 / - K2 K5 K2\n\
-                     IF > W3 K4 THEN SEND W3 ELSE GOTO 4\nSEND W2\n";
+                      LOAD D 3\nSEND - 0\nSKIP A 18\nJMP A 18\nLOAD D 2\nSEND - 0\nSTOP - 0\n";
+const SHEET: &str =
+    "SHEET 2 6\nSET 2 K3\nSET 3 - W2 / - K2 K5 K2\nIF > W3 K4\nSTART\nSEND W3\nELSE\n\
+                     GOTO 6\nFINISH\nSEND W2\n";
 
 type Shown = Result<String, (u32, u32)>;
 
@@ -153,36 +154,106 @@ fn readings_of_document_01() {
 /// "Taking a JMP after an IF for its ELSE wherever the branch leads."
 #[test]
 fn a_jump_after_an_if() {
-    let with_branch = |target: u32| {
+    let with_branch = |target: u32, over: &str| {
         let branch = format!("BNE A {target}");
         let orders = format!(
-            "LOAD D 2\nCMP K 0\n{branch}\nLOAD K 1\nSEND - 0\nJMP A 8\nLOAD K 2\nSEND - 0\nSTOP - 0\n"
+            "LOAD D 2\nCMP K 0\n{branch}\nLOAD K 1\nSEND - 0\n{over}\nLOAD K 2\nSEND - 0\nSTOP - 0\n"
         );
         sheet_of(&format!("BOX 1 0 9\n{orders}"))
     };
-    for (target, expected) in [
+    let start = "IF = W2 K0\nSTART\nSEND K1\n";
+    for (target, over, expected) in [
         (
             5,
-            Ok("SHEET 1 3\nIF = W2 K0 THEN SEND K1\nGOTO 4\nSEND K2\n"),
+            "JMP A 8",
+            Ok(format!("SHEET 1 4\n{start}FINISH\nGOTO 5\nSEND K2\n")),
         ),
-        (6, Ok("SHEET 1 1\nIF = W2 K0 THEN SEND K1 ELSE SEND K2\n")),
-        (7, Err((31, 0))),
-        (8, Err((31, 0))),
-        (9, Err((24, 2))),
+        (
+            6,
+            "JMP A 8",
+            Ok(format!("SHEET 1 4\n{start}GOTO 5\nFINISH\nSEND K2\n")),
+        ),
+        (
+            6,
+            "SKIP A 8",
+            Ok(format!("SHEET 1 3\n{start}ELSE\nSEND K2\nFINISH\n")),
+        ),
+        (7, "JMP A 8", Err((31, 0))),
+        (
+            8,
+            "JMP A 8",
+            Ok(format!("SHEET 1 4\n{start}GOTO 5\nSEND K2\nFINISH\n")),
+        ),
+        (9, "JMP A 8", Err((24, 2))),
+        (5, "SKIP A 8", Err((31, 0))),
+        (7, "SKIP A 8", Err((31, 0))),
+        (8, "SKIP A 8", Err((31, 0))),
+        (6, "SKIP A 7", Err((31, 0))),
+        (6, "SKIP A 6", Err((31, 0))),
+        (6, "SKIP A 9", Err((24, 5))),
     ] {
-        assert_eq!(with_branch(target).as_deref(), expected.as_ref().copied());
+        assert_eq!(with_branch(target, over), expected, "{target}, {over}");
     }
+}
+
+/// Groups, from source to object, sheet and run.
+#[test]
+fn groups() {
+    let source = "%BEGIN\n%INTEGER A\nA = 2\n%IF A > 1 %THEN %START\n\
+                  %IF A = 3 %THEN %START\nSEND(1)\n%FINISH\n1:\n%FINISH %ELSE %START\n->1\n\
+                  %FINISH\nSEND(A)\n%ENDOFPROGRAM\n";
+    let text = "BOX 1 0 15\nLOAD K 2\nSTR D 2\nLOAD D 2\nCMP K 1\nBLE A 11\nLOAD D 2\nCMP K 3\n\
+                BNE A 10\nLOAD K 1\nSEND - 0\nSKIP A 12\nJMP A 12\nLOAD D 2\nSEND - 0\nSTOP - 0\n";
+    let lines = "SHEET 1 6\nSET 2 K2\nIF > W2 K1\nSTART\nIF = W2 K3\nSTART\nSEND K1\nFINISH\n\
+                 ELSE\nGOTO 6\nFINISH\nSEND W2\n";
+    assert_eq!(object(source).as_deref(), Ok(text));
+    assert_eq!(sheet_of(text).as_deref(), Ok(lines));
+    // the SKIP counts with the inner IF, which fails
+    let object = text.replace(' ', "\t");
+    let (mut state, mut output) = ([0; 32], [0; 4]);
+    for (steps, next) in [(2, 2), (3, 5), (4, 12), (2, 14)] {
+        let reply = skimp::run(object.as_bytes(), &mut state, &mut output, steps);
+        assert_eq!((reply.number, reply.value), (0, steps));
+        assert_eq!(state[4..8], [0, 0, 0, next]);
+    }
+    assert_eq!(output, [0, 0, 0, 2]);
+}
+
+#[test]
+fn refusals_of_groups() {
+    let program = |statements: &str| format!("%BEGIN;%INTEGER A;{statements};%ENDOFPROGRAM");
+    let open = "%IF A=1 %THEN %START;";
+    for (statements, refusal) in [
+        (format!("{open}A=1"), (13, 3)),
+        (format!("->9;{open}A=1;{open}A=1;%FINISH"), (13, 4)),
+        ("%FINISH".to_string(), (13, 3)),
+        (format!("{open}A=1;%FINISH;%FINISH"), (13, 6)),
+        (format!("{open}%FINISH"), (7, 4)),
+        (format!("{open}A=1;%FINISH %ELSE A=2"), (7, 5)),
+        (
+            format!("{}A=1{}", open.repeat(17), ";%FINISH".repeat(17)),
+            (11, 19),
+        ),
+    ] {
+        assert_eq!(sheet(&program(&statements)), Err(refusal), "{statements}");
+    }
+    let deepest = format!("{}A=1{}", open.repeat(16), ";%FINISH".repeat(16));
+    let sheet = sheet(&program(&deepest)).expect("sixteen levels");
+    assert!(sheet.starts_with("SHEET 1 17\n"), "{sheet}");
 }
 
 #[test]
 fn example_of_the_manual() {
     let source = include_str!("../../../../examples/heater.skimp");
-    let expected = "SHEET 7 23\nSET 2 K121\nSET 3 K120\nSET 4 K122\nSET 5 K0\nIF < W8 K8 THEN GOTO 7\n\
-                    IF <= W8 K16 THEN SET 5 / - K16 ** - W8 K12 K2 K3\nSET 2 - - + W2 W5 K1 * K2 W6\n\
-                    IF > W7 K0 THEN SET 7 - W7 K1\nIF = W6 K1 THEN GOTO 16\nIF < W2 W4 THEN GOTO 21\n\
-                    IF > W7 K0 THEN GOTO 21\nSET 6 K1\nSET 7 K3\nSEND + * K1000 W8 W2\nGOTO 21\n\
-                    IF < W2 W3 THEN GOTO 18\nIF > W7 K0 THEN GOTO 21\nSET 6 K0\nSET 7 K2\n\
-                    SEND - NEG * K1000 W8 W2\nSET 8 + W8 K1\nIF < W8 K24 THEN GOTO 4\nSEND W2\n";
+    let expected = "SHEET 7 32\nSET 2 K121\nSET 3 K120\nSET 4 K122\nSET 5 K0\nIF < W8 K8\n\
+                    START\nGOTO 9\nFINISH\nIF <= W8 K16\nSTART\n\
+                    SET 5 / - K16 ** - W8 K12 K2 K3\nFINISH\nSET 2 - - + W2 W5 K1 * K2 W6\n\
+                    IF > W7 K0\nSTART\nSET 7 - W7 K1\nFINISH\nIF = W6 K1\nSTART\nGOTO 22\n\
+                    FINISH\nIF < W2 W4\nSTART\nGOTO 29\nFINISH\nIF > W7 K0\nSTART\nGOTO 29\n\
+                    FINISH\nSET 6 K1\nSET 7 K3\nSEND + * K1000 W8 W2\nGOTO 29\nIF < W2 W3\n\
+                    START\nGOTO 26\nFINISH\nIF > W7 K0\nSTART\nGOTO 29\nFINISH\nSET 6 K0\n\
+                    SET 7 K2\nSEND - NEG * K1000 W8 W2\nSET 8 + W8 K1\nIF < W8 K24\nSTART\n\
+                    GOTO 4\nFINISH\nSEND W2\n";
     assert_eq!(sheet(source).as_deref(), Ok(expected));
 }
 

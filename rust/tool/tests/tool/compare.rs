@@ -54,13 +54,16 @@ fn changed_line() {
         ran.out,
         "b.box is not the object of a.skimp\n\
          \n\
-         \x20    a.skimp                       b.box\n\
-         \x20    SHEET 1 3                     SHEET 1 3\n\
-         \x20  1 SET 2 K1               |    1 SET 2 K2\n\
-         \x20  2 IF > W2 K3 THEN GOTO 4      2 IF > W2 K3 THEN GOTO 4\n\
-         \x20  3 SEND W2                     3 SEND W2\n\
+         \x20    a.skimp           b.box\n\
+         \x20    SHEET 1 4         SHEET 1 4\n\
+         \x20  1 SET 2 K1   |    1 SET 2 K2\n\
+         \x20  2 IF > W2 K3      2 IF > W2 K3\n\
+         \x20    START             START\n\
+         \x20  3 GOTO 5          3 GOTO 5\n\
+         \x20    FINISH            FINISH\n\
+         \x20  4 SEND W2         4 SEND W2\n\
          \n\
-         1 of 4 lines differ\n"
+         1 of 7 lines differ\n"
     );
 }
 
@@ -68,15 +71,18 @@ fn changed_line() {
 fn added_line() {
     let (_, ran) = compared("SEND(A)", "SEND(A);SEND(7)");
     assert_eq!(ran.status, Some(1));
-    let rows: Vec<_> = ran.out.lines().skip(3).take(5).collect();
+    let rows: Vec<_> = ran.out.lines().skip(3).take(8).collect();
     assert_eq!(
         rows,
         [
-            "     SHEET 1 3              |      SHEET 1 4",
-            "   1 SET 2 K1                    1 SET 2 K1",
-            "   2 IF > W2 K3 THEN GOTO 4 |    2 IF > W2 K3 THEN GOTO 5",
-            "   3 SEND W2                     3 SEND W2",
-            "                            >    4 SEND K7",
+            "     SHEET 1 4  |      SHEET 1 5",
+            "   1 SET 2 K1        1 SET 2 K1",
+            "   2 IF > W2 K3      2 IF > W2 K3",
+            "     START             START",
+            "   3 GOTO 5     |    3 GOTO 6",
+            "     FINISH            FINISH",
+            "   4 SEND W2         4 SEND W2",
+            "                >    5 SEND K7",
         ]
     );
 }
@@ -85,8 +91,33 @@ fn added_line() {
 fn removed_line() {
     let (_, ran) = compared("SEND(A)\n", "");
     let rows: Vec<_> = ran.out.lines().skip(3).collect();
-    assert_eq!(rows[3], "   3 SEND W2                <");
-    assert_eq!(rows.last(), Some(&"3 of 4 lines differ"));
+    assert_eq!(rows[6], "   4 SEND W2    <");
+    assert_eq!(rows.last(), Some(&"3 of 7 lines differ"));
+}
+
+/// A second part that was left out. The lines that part groups have no number.
+#[test]
+fn removed_part() {
+    let session = session();
+    let (first, second) = ("%IF A > 3 %THEN ->9", "%IF A > 3 %THEN ->9 %ELSE A = 2");
+    session.put("b.skimp", SOURCE.replace(first, second));
+    let ran = session.skimp(&["compare", "b.skimp", "a.box"]);
+    assert_eq!(ran.status, Some(1));
+    let rows: Vec<_> = ran.out.lines().skip(3).take(9).collect();
+    assert_eq!(
+        rows,
+        [
+            "     SHEET 1 5  |      SHEET 1 4",
+            "   1 SET 2 K1        1 SET 2 K1",
+            "   2 IF > W2 K3      2 IF > W2 K3",
+            "     START             START",
+            "   3 GOTO 6     |    3 GOTO 5",
+            "     ELSE       <",
+            "   4 SET 2 K2   <",
+            "     FINISH            FINISH",
+            "   5 SEND W2         4 SEND W2",
+        ]
+    );
 }
 
 /// A line over the column's width goes on below, so that no part of it is hidden.

@@ -49,6 +49,22 @@ fn program_in_the_manual() {
     assert!(text("docs/MANUAL.md").contains(&program));
 }
 
+/// The program with groups in the manual sends what the manual says.
+#[test]
+fn groups_in_the_manual() {
+    let manual = text("docs/MANUAL.md");
+    let (_, rest) = manual.split_once("### Groups\n").expect("the section");
+    let lines = rest.lines().skip_while(|line| !line.contains("%BEGIN"));
+    let lines = lines.take_while(|line| line.starts_with("    "));
+    let program: String = lines.map(|line| format!("{}\n", &line[4..])).collect();
+    let session = Session::new();
+    session.put("groups.skimp", &program);
+    let command = "skimp compile groups.skimp | skimp run -";
+    let shown = printed(&session, command);
+    assert!(shown.starts_with("sent: 124 123 -122\n"), "{shown}");
+    assert!(rest.contains("It sends 124, 123 and -122."));
+}
+
 /// The command's words for each refusal are those of the manual page's example and of README.
 #[test]
 fn refusal_in_the_manual_page() {

@@ -3,7 +3,7 @@
 use crate::session::{said, Session};
 
 /// Sources, and what is said of them behind the file's name.
-const SOURCES: [(u32, &str, &str); 9] = [
+const SOURCES: [(u32, &str, &str); 11] = [
     (
         2,
         "%BEGIN\nA\t= 1\n",
@@ -45,12 +45,23 @@ const SOURCES: [(u32, &str, &str); 9] = [
         ":2: statement 2, the last: no %ENDOFPROGRAM [10]\n    SEND(1)",
     ),
     (10, "", ": no statement was read: no %ENDOFPROGRAM [10]"),
+    (
+        13,
+        "%BEGIN\nSEND(1)\n%IF 1 = 1 %THEN %START\n  SEND(2)\n%ENDOFPROGRAM\n",
+        ":3: statement 3: group left open, or %FINISH without one [13]\n    %IF 1 = 1 %THEN %START",
+    ),
+    (
+        13,
+        "%BEGIN\nSEND(1)\n  %FINISH\n%ENDOFPROGRAM\n",
+        ":3: statement 3: group left open, or %FINISH without one [13]\n    %FINISH",
+    ),
 ];
 
 /// The same with sources that are long, or no text.
 fn long_sources() -> [(u32, Vec<u8>, String); 4] {
     let labels: String = (1..=65).map(|label| format!("{label}:\n")).collect();
-    let limits = "over 64 variables, 64 set labels, 32 temporaries, or 1,024 orders with STOP";
+    let limits =
+        "over 64 variables, 64 set labels, 16 levels, 32 temporaries, or 1,024 orders with STOP";
     let sum = "1+".repeat(150);
     [
         (1, vec![b' '; 16_385], ": source too long [1]".to_string()),
@@ -95,11 +106,11 @@ fn of_sources() {
     }
     numbers.sort_unstable();
     numbers.dedup();
-    assert_eq!(numbers, [1, 2, 3, 4, 5, 6, 7, 8, 9, 10, 11]);
+    assert_eq!(numbers, [1, 2, 3, 4, 5, 6, 7, 8, 9, 10, 11, 13]);
 }
 
 /// Objects with spaces for tabs, and what is said of them behind the file's name.
-const OBJECTS: [(u32, &str, &str); 12] = [
+const OBJECTS: [(u32, &str, &str); 14] = [
     (21, "", ":1: header not of the form or over a limit [21]"),
     (21, "%BEGIN\n", ":1: header not of the form or over a limit [21]\n    %BEGIN"),
     (
@@ -138,6 +149,11 @@ const OBJECTS: [(u32, &str, &str); 12] = [
         ":3: order 1: address behind the last order [24]\n    JMP\tA\t3",
     ),
     (
+        24,
+        "BOX 0 0 3\nNEG - 0\nSKIP A 3\nSTOP - 0\n",
+        ":3: order 1: address behind the last order [24]\n    SKIP\tA\t3",
+    ),
+    (
         25,
         "BOX 0 0 2\nSTOP - 0\nSTOP - 0\n",
         ":2: order 0: last order not STOP, or STOP earlier [25]\n    STOP\t-\t0",
@@ -150,6 +166,12 @@ const OBJECTS: [(u32, &str, &str); 12] = [
     (
         31,
         "BOX 0 0 2\nNEG - 0\nSTOP - 0\n",
+        ": good object, but no sheet translates to it [31]",
+    ),
+    // no IF is before it
+    (
+        31,
+        "BOX 0 0 2\nSKIP A 1\nSTOP - 0\n",
         ": good object, but no sheet translates to it [31]",
     ),
 ];

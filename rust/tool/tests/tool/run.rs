@@ -189,6 +189,20 @@ fn trace_to_the_end() {
     );
 }
 
+/// SKIP is shown as what it is, with where it leads.
+#[test]
+fn traced_skip() {
+    let session = session("%BEGIN\n%IF 1 = 1 %THEN SEND(1) %ELSE SEND(2)\n%ENDOFPROGRAM\n");
+    let ran = session.skimp(&["run", "a.box", "--trace"]);
+    let rows: Vec<_> = ran.out.lines().skip(5).take(3).collect();
+    let lines = [
+        "     5     4  SEND - 0                       1  sends 1",
+        "     6     5  SKIP A 8                       1  goes to 8",
+        "     7     8  STOP - 0                       1  stops",
+    ];
+    assert_eq!(rows, lines);
+}
+
 /// The order that faults is shown and is no step, also where it comes right behind the last step.
 #[test]
 fn traced_fault() {

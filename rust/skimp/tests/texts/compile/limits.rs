@@ -223,6 +223,57 @@ fn orders() {
     );
 }
 
+/// Orders are counted at the statement that brings them: the SKIP at `%FINISH %ELSE %START`.
+#[test]
+fn orders_of_groups() {
+    let after = |sends: usize, rest: &str| {
+        let sends = "SEND(1)\n".repeat(sends);
+        program(&format!("1:\n{sends}{rest}"))
+    };
+    let both = "%IF 1=1 %THEN %START\n->1\n%FINISH %ELSE %START\n->1\n%FINISH";
+    hold(
+        "orders of groups",
+        &[
+            (after(508, both), Ok(())),
+            (after(508, &format!("->1\n{both}")), Ok(())),
+            // the second part, the SKIP, the first part, the condition
+            (after(509, both), Err((11, 516))),
+            (after(509, &format!("->1\n{both}")), Err((11, 516))),
+            (after(510, both), Err((11, 515))),
+            (after(510, &format!("->1\n{both}")), Err((11, 515))),
+        ],
+    );
+}
+
+/// "nested up to 16 deep"; "A lone u counts as a level; deeper is 11."
+#[test]
+fn levels() {
+    let nested = |levels: usize, inside: &str| {
+        let open = "%IF A=1 %THEN %START\n".repeat(levels);
+        program(&format!("{open}{inside}{}", "\n%FINISH".repeat(levels)))
+    };
+    let second = "A=2\n%FINISH %ELSE %START\n";
+    hold(
+        "levels",
+        &[
+            (nested(15, "A=2"), Ok(())),
+            (nested(16, "A=2"), Ok(())),
+            (nested(17, "A=2"), Err((11, 19))),
+            (nested(15, "%IF A=1 %THEN A=2"), Ok(())),
+            (nested(16, "%IF A=1 %THEN A=2"), Err((11, 19))),
+            (nested(16, "%IF A=1 %THEN A=2 %ELSE A=3"), Err((11, 19))),
+            (nested(16, &format!("{second}A=3")), Ok(())),
+            (
+                nested(16, &format!("{second}%IF A=1 %THEN A=2")),
+                Err((11, 21)),
+            ),
+            // 8 and 9 come before
+            (nested(16, "%IF X=1 %THEN A=2"), Err((8, 19))),
+            (nested(16, "0:%IF A=1 %THEN A=2"), Err((9, 19))),
+        ],
+    );
+}
+
 #[test]
 fn constants() {
     let constant = |number: &str| program(&format!("A={number}"));

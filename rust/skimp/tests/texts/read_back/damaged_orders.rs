@@ -62,7 +62,7 @@ fn damaged_orders() {
         }
     }
     println!("{outcomes}");
-    assert_eq!(all.iter().sum::<usize>(), 25 * 2000);
+    assert_eq!(all.iter().sum::<usize>(), DAMAGES.len() * OBJECTS_OF_EACH);
     let enough = all.iter().all(|&count| count >= 5000);
     assert!(enough, "{all:?} objects");
     // 31 has only one place, and so has 21: here V, T or N just over its limit

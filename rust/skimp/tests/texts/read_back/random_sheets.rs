@@ -20,7 +20,7 @@ fn small_sheets() {
         census.add(&sheet, &translation);
     }
     assert_eq!(census.sheets, 60_000);
-    census.every_form(name, 600);
+    census.every_form(name, 200);
     for orders in 1..=40 {
         assert!(census.with_orders(orders) >= 600, "{name}: N {orders}");
     }
@@ -39,7 +39,11 @@ fn large_sheets() {
         census.add(&sheet, &translation);
     }
     assert_eq!(census.sheets, 2000);
-    census.every_form(name, 200);
+    census.every_form(name, 100);
+    for depth in 0..=16 {
+        let count = census.with_depth(depth);
+        assert!(count >= 5, "{name}: {count} sheets with {depth} levels");
+    }
     // no sheet uses exactly one temporary
     for temporaries in (0..=32).filter(|&temporaries| temporaries != 1) {
         let count = census.with_temporaries(temporaries);

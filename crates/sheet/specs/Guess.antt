@@ -1,0 +1,174 @@
+-- A guess at the instructions that orders are the translation of: it is right on translations (proofs/Guessing.antt) and may be
+-- anything elsewhere. ReadBack.antt checks it.
+use Prim.Native.Nat.{ℕ, zero, suc, _+_, _-_}
+use mathlib.Core.Bool.{Bool, true, false}
+use mathlib.Core.List.{List, [], _∷_}
+use lib.Dec.{ltb, leb, eqb}
+use lib.ListN.{length, getD, drop}
+use Rattle.base.specs.Choice.{pick}
+use Rattle.order.specs.declared.Operation.{Operation}
+use Rattle.order.specs.declared.Operation.the-variants.{Load, Add, Sub, Mlt, Div, Exp, Shl, Shr, And, Or, Xor, Cmp}
+use Rattle.order.specs.declared.Order.{Order}
+use Rattle.order.specs.declared.Order.the-variants.{Word, Number, Store, Neg, Not, Jump, Skip, Branch, Send, Stop}
+use Rattle.order.specs.Order.{operand as orderOperand}
+use Rattle.sheet.specs.declared.Operator.{Operator}
+use Rattle.sheet.specs.declared.Operator.the-variants.{Plus, Minus, Times, Over, Power, Left, Right, And as Both, Or as Any, Unlike}
+use Rattle.sheet.specs.Sheet.{Expression, word, constant, negated, inverted, binary, set, send, goto}
+use Rattle.sheet.specs.Sheet.{Condition, compares, Part, end, plain, when, either, retargetPart}
+use Rattle.sheet.specs.Orders.{opposite}
+use Rattle.sheet.specs.Translation.{starts}
+use Rattle.sheet.specs.Within.{mostLevels}
+
+-- ---- expressions, forwards
+
+-- LOAD, an operator's order, or CMP
+abbrev pub byOperation : {A : Type 0} → Operation → A → (Operator → A) → A → A
+byOperation Load load f cmp = load
+byOperation Add load f cmp = f Plus
+byOperation Sub load f cmp = f Minus
+byOperation Mlt load f cmp = f Times
+byOperation Div load f cmp = f Over
+byOperation Exp load f cmp = f Power
+byOperation Shl load f cmp = f Left
+byOperation Shr load f cmp = f Right
+byOperation And load f cmp = f Both
+byOperation Or load f cmp = f Any
+byOperation Xor load f cmp = f Unlike
+byOperation Cmp load f cmp = cmp
+
+-- an expression, or the two of a comparison, and the orders behind it
+pub data Read : Type 0 where
+  one : Expression → List Order → Read
+  two : Expression → Expression → List Order → Read
+
+-- the expressions that wait, the last first
+abbrev pub top : List Expression → Expression
+top [] = word 0
+top (e ∷ es) = e
+
+abbrev pub below : List Expression → List Expression
+below [] = []
+below (e ∷ es) = es
+
+-- e is what the accumulator holds, es are the expressions stored
+unfoldable pub forward : ℕ → List Expression → Expression → List Order → Read
+forward v es e [] = one e []
+forward v es e (Word f w ∷ l) =
+    pick
+    (leb (v + 2) w)
+    (byOperation
+    f
+    (forward v es e l)
+    (λ o. forward v (below (below es)) (binary o (top (below es)) (top es)) l)
+    (two (top (below es)) (top es) l))
+    (byOperation f (forward v es (word w) l) (λ o. forward v es (binary o e (word w)) l) (two e (word w) l))
+forward v es e (Number f n ∷ l) =
+    byOperation f (forward v es (constant n) l) (λ o. forward v es (binary o e (constant n)) l) (two e (constant n) l)
+forward v es e (Store w ∷ l) = pick (leb (v + 2) w) (forward v (e ∷ es) e l) (one e (Store w ∷ l))
+forward v es e (Neg ∷ l) = forward v es (negated e) l
+forward v es e (Not ∷ l) = forward v es (inverted e) l
+forward v es e (Jump a ∷ l) = one e (Jump a ∷ l)
+forward v es e (Skip a ∷ l) = one e (Skip a ∷ l)
+forward v es e (Branch r a ∷ l) = one e (Branch r a ∷ l)
+forward v es e (Send ∷ l) = one e (Send ∷ l)
+forward v es e (Stop ∷ l) = one e (Stop ∷ l)
+
+-- ---- instructions: GOTO has an address here. No list is cut out: `l` is what is left of the orders os, so its first order is
+-- order length os - length l; a part ends before order q
+
+-- an instruction without a condition, which ends with the order o
+abbrev pub oneEnd : (List Order → Part) → Expression → Order → List Order → Part
+oneEnd guess e (Word f w) l = end
+oneEnd guess e (Number f n) l = end
+oneEnd guess e (Store w) l = plain (set w e) (guess l)
+oneEnd guess e Neg l = end
+oneEnd guess e Not l = end
+oneEnd guess e (Jump a) l = plain (goto a) (guess l)
+oneEnd guess e (Skip a) l = end
+oneEnd guess e (Branch r a) l = end
+oneEnd guess e Send l = plain (send e) (guess l)
+oneEnd guess e Stop l = end
+
+-- the order before a branch's target is a SKIP exactly where there is a second part
+abbrev pub isSkip : Order → Bool
+isSkip (Word f w) = false
+isSkip (Number f n) = false
+isSkip (Store w) = false
+isSkip Neg = false
+isSkip Not = false
+isSkip (Jump a) = false
+isSkip (Skip a) = true
+isSkip (Branch r a) = false
+isSkip Send = false
+isSkip Stop = false
+
+-- p < a ≤ q
+abbrev pub between : ℕ → ℕ → ℕ → Bool
+between p a q = pick (ltb p a) (leb a q) false
+
+module _ (os : List Order) where
+  -- where l begins
+  abbrev pub placeOf : List Order → ℕ
+  placeOf l = length os - length l
+
+  -- an IF whose branch leads to order a; its first part begins with l, and the range ends before order q. Without the two tests
+  -- orders of no sheet could be read over and over
+  abbrev pub choice : (ℕ → List Order → Part) → (List Order → Part) → ℕ → Condition → ℕ → List Order → Part
+  choice inner guess q c a l =
+      pick
+      (between (placeOf l) a q)
+      (pick
+      (isSkip (getD os (a - 1) Stop))
+      (pick
+      (between a (orderOperand (getD os (a - 1) Stop)) q)
+      (either
+      c
+      (inner (a - 1) l)
+      (inner (orderOperand (getD os (a - 1) Stop)) (drop a os))
+      (guess (drop (orderOperand (getD os (a - 1) Stop)) os)))
+      end)
+      (when c (inner a l) (guess (drop a os))))
+      end
+
+  abbrev pub twoEnd : (ℕ → List Order → Part) → (List Order → Part) → ℕ → Expression → Expression → Order → List Order → Part
+  twoEnd inner guess q x y (Word f w) l = end
+  twoEnd inner guess q x y (Number f n) l = end
+  twoEnd inner guess q x y (Store w) l = end
+  twoEnd inner guess q x y Neg l = end
+  twoEnd inner guess q x y Not l = end
+  twoEnd inner guess q x y (Jump s) l = end
+  twoEnd inner guess q x y (Skip s) l = end
+  twoEnd inner guess q x y (Branch r a) l = choice inner guess q (compares (opposite r) x y) a l
+  twoEnd inner guess q x y Send l = end
+  twoEnd inner guess q x y Stop l = end
+
+  abbrev pub onRead : (ℕ → List Order → Part) → (List Order → Part) → ℕ → Read → Part
+  onRead inner guess q (one e []) = end
+  onRead inner guess q (one e (o ∷ l)) = oneEnd guess e o l
+  onRead inner guess q (two x y []) = end
+  onRead inner guess q (two x y (o ∷ l)) = twoEnd inner guess q x y o l
+
+  -- at most `most` instructions and `deep` levels of IFs
+  unfoldable pub guess : ℕ → ℕ → ℕ → ℕ → List Order → Part
+  guess zero deep v q l = end
+  guess (suc most) zero v q l =
+      pick (leb q (placeOf l)) end (onRead (λ q l. end) (guess most zero v q) q (forward v [] (word 0) l))
+  guess (suc most) (suc deep) v q l =
+      pick (leb q (placeOf l)) end (onRead (guess most deep v) (guess most (suc deep) v q) q (forward v [] (word 0) l))
+
+-- ---- numbers
+
+-- the place of a among as, or behind the last
+unfoldable pub place : ℕ → List ℕ → ℕ
+place a [] = 0
+place a (b ∷ l) = pick (eqb a b) 0 (suc (place a l))
+
+abbrev pub numberOf : ℕ → Part → ℕ → ℕ
+numberOf v x a = suc (place a (starts v 0 x))
+
+abbrev pub numbered : ℕ → Part → Part
+numbered v x = retargetPart (numberOf v x) x
+
+-- the orders but STOP, which is the last
+abbrev pub guessed : ℕ → List Order → Part
+guessed v os = numbered v (guess os (length os) mostLevels v (length os - 1) os)

@@ -1,0 +1,4 @@
+pub mod States
+pub mod Complete
+pub mod Sound
+pub mod Passes

@@ -1,0 +1,5 @@
+pub mod Patches
+pub mod Looking
+pub mod Parts
+pub mod Choices
+pub mod Turns

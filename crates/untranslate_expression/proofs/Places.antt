@@ -1,0 +1,136 @@
+-- Orders by their places, and fields put one behind the other.
+use Prim.Native.Nat.{ℕ, zero, suc, _+_, _≤_, _<_}
+use mathlib.Core.Path.{_≡_, refl, sym, ap, _∙_}
+use mathlib.Core.Bool.{Bool, true, false}
+use mathlib.Core.List.{List, [], _∷_, _++_, map}
+use native.Mathlib.Omega.{arith}
+use native.Mathlib.Nat.{add-assoc}
+use native.Mathlib.Numerals.{add-one}
+use borrow.Author.Tests.{eq-eqb, ne-eqb}
+use lib.ListN.{length, getD, set, length-append, length-map}
+use lib.Seq.{sets, drop-cons, set-comm}
+use Rattle.base.specs.Choice.{pick}
+use Rattle.base.proofs.Lists.{sets-append}
+use Rattle.order.specs.declared.Order.{Order}
+use Rattle.order.specs.declared.Order.the-variants.{Store}
+use Rattle.order.specs.Memory.{orderIn}
+use Rattle.sheet.specs.declared.Field.{Field}
+use Rattle.sheet_field.specs.Memory.{fieldWord}
+use Rattle.untranslate_expression.specs.declared.Link.the-variants.{Kept, End}
+use Rattle.untranslate_expression.specs.Internal.{ordersAt, firstOrder, behind, takes, pastTaking, loadsLeaf, linkBy, linkOf}
+use Rattle.untranslate_expression.specs.Internal.{Past, PastWord, Writes, Safe}
+
+-- ---- orders
+
+orders-behind-suc : (at : ℕ) (os : List ℕ) → ordersAt (suc at) os ≡ behind (ordersAt at os)
+orders-behind-suc zero [] = refl
+orders-behind-suc zero (w ∷ os) = refl
+orders-behind-suc (suc at) [] = refl
+orders-behind-suc (suc at) (w ∷ os) = orders-behind-suc at os
+
+pub orders-behind : (at : ℕ) (os : List ℕ) → ordersAt (at + 1) os ≡ behind (ordersAt at os)
+orders-behind at os = rw (add-one at) (orders-behind-suc at os)
+
+pub first-inside : (at : ℕ) (os : List ℕ) → at < length os → firstOrder (ordersAt at os) ≡ orderIn (getD os at 0)
+first-inside at os h = rw (drop-cons os at 0 h) refl
+
+pub orders-inside : (at : ℕ) (os : List ℕ) → at < length os → ordersAt at os ≡ orderIn (getD os at 0) ∷ ordersAt (at + 1) os
+orders-inside at os h = rw (drop-cons os at 0 h, add-one at) refl
+
+pub none-outside : (at : ℕ) (os : List ℕ) → length os ≤ at → ordersAt at os ≡ []
+none-outside zero [] h = refl
+none-outside zero (w ∷ os) h = absurd (omega arith)
+none-outside (suc at) [] h = refl
+none-outside (suc at) (w ∷ os) h = none-outside at os (omega arith)
+
+module _ (os : List ℕ) (at : ℕ) where
+  pub past-inside : at < length os → Past os at (at + 1)
+  past-inside h = record { on = omega arith; over = λ g. omega arith; inside = λ g. omega arith; rest = orders-behind at os }
+
+  pub past-outside : length os ≤ at → Past os at at
+  past-outside h = record {
+    on = omega arith;
+    over = λ g. absurd (omega arith);
+    inside = λ g. g;
+    rest = let none = none-outside at os h in none ∙ sym (ap behind none);
+  }
+
+-- ---- the first order on a word, from place `at` on: none so far up to j
+
+module _ (os : List ℕ) (at t j : ℕ) (on : at ≤ j) (same : pastTaking t (ordersAt j os) ≡ pastTaking t (ordersAt at os)) where
+  pub word-found : j < length os → takes t (orderIn (getD os j 0)) ≡ true → PastWord os at t (j + 1)
+  unfolding pastTaking pick
+  word-found h yes-it = record {
+    on = omega arith;
+    inside = λ g. omega arith;
+    rest = sym (ap (pastTaking t) (orders-inside j os h) ∙ ap (λ b. pick b (ordersAt (j + 1) os) (pastTaking t (ordersAt (j + 1) os))) yes-it) ∙ same;
+  }
+
+  pub word-later : j < length os → takes t (orderIn (getD os j 0)) ≡ false → pastTaking t (ordersAt (j + 1) os) ≡ pastTaking t (ordersAt at os)
+  unfolding pastTaking pick
+  word-later h no-it =
+      sym (ap (pastTaking t) (orders-inside j os h) ∙ ap (λ b. pick b (ordersAt (j + 1) os) (pastTaking t (ordersAt (j + 1) os))) no-it) ∙ same
+
+  pub word-never : length os ≤ j → (at ≤ length os → j ≤ length os) → PastWord os at t j
+  unfolding pastTaking
+  word-never h g = record {
+    on = on;
+    inside = g;
+    rest = let none = none-outside j os h in none ∙ sym (ap (pastTaking t) none) ∙ same;
+  }
+
+-- ---- STR of a temporary
+
+module _ (os : List ℕ) (at first t w : ℕ) (here : Store w ≡ firstOrder (ordersAt at os)) where
+  pub store-other : (w ≡ t → ⊥) → End ≡ linkOf first t (ordersAt at os)
+  unfolding pick
+  store-other h = rw (← here, ne-eqb w t h) refl
+
+  module _ (same : w ≡ t) (q : Order) (behind-it : q ≡ firstOrder (ordersAt (at + 1) os)) where
+    stored : linkOf first t (ordersAt at os) ≡ pick (loadsLeaf first q) Kept End
+    unfolding pick
+    stored =
+        ap (λ o. linkBy first t o (firstOrder (behind (ordersAt at os)))) (sym here)
+        ∙ ap (λ b. pick b (pick (loadsLeaf first (firstOrder (behind (ordersAt at os)))) Kept End) End) (eq-eqb w t same)
+        ∙ ap (λ o. pick (loadsLeaf first o) Kept End) (sym (behind-it ∙ ap firstOrder (orders-behind at os)))
+
+    pub store-kept : (b : Bool) → b ≡ loadsLeaf first q → b ≡ true → Kept ≡ linkOf first t (ordersAt at os)
+    unfolding pick
+    store-kept b known yes-it = sym (stored ∙ ap (λ k. pick k Kept End) (sym known ∙ yes-it))
+
+    pub store-end : (b : Bool) → b ≡ loadsLeaf first q → b ≡ false → End ≡ linkOf first t (ordersAt at os)
+    unfolding pick
+    store-end b known no-it = sym (stored ∙ ap (λ k. pick k Kept End) (sym known ∙ no-it))
+
+-- ---- fields
+
+pub map-append : {A B : Type 0} (f : A → B) (xs ys : List A) → map f (xs ++ ys) ≡ map f xs ++ map f ys
+map-append f [] ys = refl
+map-append f (x ∷ xs) ys = ap (λ l. f x ∷ l) (map-append f xs ys)
+
+-- a store before others
+pub set-sets : (ws l : List ℕ) (i j c : ℕ) → i < j → set (sets l j ws) i c ≡ sets (set l i c) j ws
+set-sets [] l i j c h = refl
+set-sets (w ∷ ws) l i j c h =
+    set-sets ws (set l j w) i (suc j) c (omega arith) ∙ ap (λ m. sets m (suc j) ws) (set-comm l j i w c (λ e. omega arith))
+
+pub writes-before : (ws l : List ℕ) (q c : ℕ) → set (sets l (q + 1) ws) q c ≡ sets l q (c ∷ ws)
+writes-before ws l q c = rw (add-one q) (set-sets ws l q (suc q) c (omega arith))
+
+pub writes-none : (n : ℕ) (fs : List ℕ) → Writes [] n fs n fs
+writes-none n fs = record { place = omega arith; fields = refl }
+
+pub writes-more :
+    {es gs : List Field} {n j r : ℕ} {fs m after : List ℕ}
+    → Writes es n fs j m
+    → Writes gs j m r after
+    → Writes (es ++ gs) n fs r after
+writes-more {es} {gs} {n} {j} {r} {fs} {m} {after} p q = record {
+  place = q .place ∙ rw (p .place, length-append es gs) (add-assoc n (length es) (length gs));
+  fields =
+      q .fields
+      ∙ rw (p .fields, p .place, map-append fieldWord es gs, sets-append fs n (map fieldWord es) (map fieldWord gs), length-map es fieldWord) refl;
+}
+
+pub safe-more : {n j r : ℕ} {fs m after : List ℕ} → Safe n fs j m → Safe j m r after → Safe n fs r after
+safe-more p q = record { kept = q .kept ∙ p .kept; inside = λ h. let i = p .inside h in omega (arith, q .inside (omega (arith, i, p .kept)), p .kept) }

@@ -1,0 +1,2 @@
+pub mod Guess
+pub mod Internal
