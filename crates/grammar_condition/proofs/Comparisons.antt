@@ -11,14 +11,14 @@ use Rattle.sheet.specs.Sheet.{Expression, compares}
 use Rattle.sheet.specs.Fields.{expressionFields, conditionFields}
 use Rattle.source.specs.declared.Token.{Token}
 use Rattle.source.specs.declared.Token.the-variants.{Name, Number, Quoted, Binary, Compare, Mark}
-use Rattle.source.specs.Grammar.{Read, read, none, next, behindFirst, expressionIn, expression, relationAt}
+use Rattle.source.specs.Grammar.{Read, read, none, next, behindFirst, expression, relationAt}
 use Rattle.grammar_look.specs.declared.Related.the-variants.{By as RelatedBy, Missing as NoRelation}
 use Rattle.grammar_look.specs.Internal.{left, firstRelation}
 use Rattle.grammar_look.proofs.Places.{left-behind}
-use Rattle.grammar_output.specs.Internal.{insertAt}
+use Rattle.grammar_output.specs.Internal.{written, insertAt}
 use Rattle.grammar_output.proofs.Shifting.{insert-at-seam}
-use Rattle.grammar_expression.specs.Internal.{written, Enough, expressionPass}
-use Rattle.grammar_expression.proofs.Following.{then-found, then-missing, whole-expression}
+use Rattle.grammar_expression.specs.Internal.{expressionPass}
+use Rattle.grammar_expression.proofs.Following.{then-found, then-missing}
 use Rattle.grammar_condition.specs.Internal.{comparedPass, conditionPass}
 
 -- ---- comparisons
@@ -75,27 +75,26 @@ module _ (fs : List Field) where
       (ap₂ (λ x y. read x (behindFirst y)) (h ∙ ap (insertAt p (CompareField s)) all ∙ insert-at-seam fs (expressionFields a) p (CompareField s) g) same)
 
   module _ (ks vs : List ℕ) (n at : ℕ) where
-    pub compared-missing : Enough n at (λ k. none ≡ written expressionFields fs (expressionIn k (left n at ks vs)))
+    pub compared-missing : none ≡ expressionPass fs (left n at ks vs)
         → none ≡ comparedPass fs (left n at ks vs)
     unfolding after-first
-    compared-missing h = first-missing (expression (left n at ks vs)) (whole-expression ks vs n at fs none h)
+    compared-missing h = first-missing (expression (left n at ks vs)) h
 
     pub compared-unrelated : (gs : List Field) (rest : List Token)
-        → Enough n at (λ k. read gs rest ≡ written expressionFields fs (expressionIn k (left n at ks vs)))
+        → read gs rest ≡ expressionPass fs (left n at ks vs)
         → firstRelation rest ≡ NoRelation → none ≡ comparedPass fs (left n at ks vs)
     unfolding after-first
     compared-unrelated gs rest h f =
-        unrelated (expression (left n at ks vs)) gs rest (whole-expression ks vs n at fs (read gs rest) h) f
+        unrelated (expression (left n at ks vs)) gs rest h f
 
     pub compared-found : (s : Relation) (p a : ℕ) (gs hs : List Field)
-        → Enough n at (λ k. read gs (left n a ks vs) ≡ written expressionFields fs (expressionIn k (left n at ks vs)))
+        → read gs (left n a ks vs) ≡ expressionPass fs (left n at ks vs)
         → firstRelation (left n a ks vs) ≡ RelatedBy s → a < n → length fs ≡ p → hs ≡ insertAt p (CompareField s) gs
         → read hs (left n (a + 1) ks vs) ≡ comparedPass fs (left n at ks vs)
     unfolding after-first
     compared-found s p a gs hs h f i g e =
         ap (λ l. read hs l) (left-behind ks vs n a i)
-        ∙ related (expression (left n at ks vs)) s p gs hs (left n a ks vs)
-        (whole-expression ks vs n at fs (read gs (left n a ks vs)) h) f g e
+        ∙ related (expression (left n at ks vs)) s p gs hs (left n a ks vs) h f g e
 
 -- ---- the second expression
 
@@ -131,8 +130,7 @@ module _ (fs : List Field) where
         then-missing (comparedPass fs (left n at ks vs)) (λ g l. expressionPass g l) e ∙ first-fields (expression (left n at ks vs))
 
     pub condition-read : (a : ℕ) (gs : List Field) (r : Read (List Field)) → read gs (left n a ks vs) ≡ comparedPass fs (left n at ks vs)
-        → Enough n a (λ k. r ≡ written expressionFields gs (expressionIn k (left n a ks vs))) → r ≡ conditionPass fs (left n at ks vs)
+        → r ≡ expressionPass gs (left n a ks vs) → r ≡ conditionPass fs (left n at ks vs)
     condition-read a gs r e h =
-        then-found (comparedPass fs (left n at ks vs)) (λ g l. expressionPass g l) gs (left n a ks vs) r e
-        (whole-expression ks vs n a gs r h)
+        then-found (comparedPass fs (left n at ks vs)) (λ g l. expressionPass g l) gs (left n a ks vs) r e h
         ∙ first-fields (expression (left n at ks vs))

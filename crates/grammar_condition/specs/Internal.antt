@@ -5,7 +5,7 @@ use Rattle.sheet.specs.declared.Field.the-variants.{Compare}
 use Rattle.sheet.specs.Fields.{expressionFields, conditionFields}
 use Rattle.source.specs.declared.Token.{Token}
 use Rattle.source.specs.Grammar.{Read, read, next, expression, relationAt, conditionAt}
-use Rattle.grammar_expression.specs.Internal.{written}
+use Rattle.grammar_output.specs.Internal.{written}
 
 -- the relation stands before the first of the two expressions
 abbrev pub comparedPass : List Field → List Token → Read (List Field)

@@ -1,4 +1,3 @@
-pub mod Expressions
-pub mod Linking
-pub mod Operands
 pub mod Following
+pub mod Closing
+pub mod Whole

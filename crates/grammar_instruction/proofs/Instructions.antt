@@ -17,9 +17,9 @@ use Rattle.grammar_look.specs.Internal.{left}
 use Rattle.grammar_look.proofs.Places.{left-behind}
 use Rattle.grammar_output.specs.declared.Step.{Step}
 use Rattle.grammar_output.specs.declared.Step.the-variants.{At, Missing as NoStep}
-use Rattle.grammar_output.specs.Internal.{Moved}
-use Rattle.grammar_expression.specs.Internal.{written, stepped}
-use Rattle.grammar_expression.proofs.Operands.{moved-later}
+use Rattle.grammar_output.specs.Internal.{written, Moved}
+use Rattle.grammar_expression.specs.Internal.{stepped}
+use Rattle.grammar_expression.proofs.Closing.{moved-later}
 use Rattle.grammar_simple.specs.Internal.{simplePass}
 use Rattle.grammar_condition.specs.Internal.{conditionPass}
 use Rattle.grammar_instruction.specs.declared.Instructed.{Instructed}

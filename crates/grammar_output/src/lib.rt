@@ -10,7 +10,7 @@ ghost use Prim.Native.Nat.{_+_, _<_, _≤_};
 ghost use lib.ListN.{length};
 ghost use Rattle.sheet_field.specs.Memory.{carried, fieldWord, fieldsFrom};
 ghost use Rattle.source.specs.Grammar.{level};
-ghost use Rattle.grammar_output.specs.Internal.{insertAt, placeFor, placesAfter};
+ghost use Rattle.grammar_output.specs.Internal.{insertAt, Small, placesWord, HeldBy, placeFor, placesAfter};
 
 // What was read: the place behind it among the tokens, and the place behind its fields. Or that there is nothing of the form.
 pub enum Step {
@@ -54,6 +54,24 @@ pub struct Places {
     pub low: usize,
     pub middle: usize,
     pub high: usize,
+}
+
+// Three places as one number, a byte each.
+pub fn word_of(p: Places) -> u32
+    requires { ⌜ Small p ⌝ }
+    ensures { λ r. ⌜ r ≡ placesWord p ⌝ }
+{
+    p.low as u32 + p.middle as u32 * 256 + p.high as u32 * 65536
+}
+
+pub fn places_of(w: u32) -> Places
+    ensures { λ r. ⌜ HeldBy w r ⌝ }
+{
+    Places {
+        low: w as usize % 256,
+        middle: w as usize / 256 % 256,
+        high: w as usize / 65536,
+    }
 }
 
 // "Levels, highest first: `\`; `** << >>`; `* / &`; `+ - ! !!`."

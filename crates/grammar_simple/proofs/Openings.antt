@@ -5,7 +5,6 @@ use mathlib.Core.Bool.{Bool, true, false}
 use mathlib.Core.List.{List, [], _∷_, _++_, append-assoc}
 use native.Mathlib.Omega.{arith}
 use lib.Dec.{eqb}
-use lib.ListN.{length}
 use Rattle.base.specs.Choice.{pick}
 use Rattle.sheet.specs.declared.Field.{Field}
 use Rattle.sheet.specs.declared.Field.the-variants.{Send as SendField, Set as SetField, Goto as GotoField}
@@ -14,14 +13,15 @@ use Rattle.sheet.specs.Fields.{expressionFields, simpleFields}
 use Rattle.source.specs.declared.Token.{Token}
 use Rattle.source.specs.declared.Token.the-variants.{Name, Number, Quoted, Binary, Compare, Mark}
 use Rattle.source.specs.Tokens.{markArrow, markOpen, markClose}
-use Rattle.source.specs.Grammar.{Read, read, none, next, past, opens, behindFirst, isEqual, sendWord, expressionIn, expression}
+use Rattle.source.specs.Grammar.{Read, read, none, next, past, opens, behindFirst, isEqual, sendWord, expression}
 use Rattle.source.specs.Grammar.{named, jump, simpleAt}
 use Rattle.grammar_look.specs.declared.Opening.{Opening}
 use Rattle.grammar_look.specs.declared.Opening.the-variants.{Set, Send, Goto, Missing as NoOpening}
 use Rattle.grammar_look.specs.Internal.{left, firstOpening}
-use Rattle.grammar_look.proofs.Places.{left-length, left-behind}
-use Rattle.grammar_expression.specs.Internal.{written, bracketedBy, Enough}
-use Rattle.grammar_expression.proofs.Following.{whole-expression}
+use Rattle.grammar_look.proofs.Places.{left-behind}
+use Rattle.grammar_operand.specs.Internal.{bracketedBy}
+use Rattle.grammar_expression.specs.Internal.{expressionPass}
+use Rattle.grammar_output.specs.Internal.{written}
 use Rattle.grammar_simple.specs.Internal.{setPass, sendPass, simplePass}
 
 set-expression : (fs : List Field) (w : ℕ) (x : Read Expression)
@@ -46,18 +46,16 @@ send-expression fs (read e rest) = go (opens markClose rest)
 
 module _ (ks vs : List ℕ) (n at : ℕ) (fs gs : List Field) (r : Read (List Field)) where
   pub set-read : (w : ℕ) → gs ≡ fs ++ (SetField w ∷ [])
-      → Enough n at (λ k. r ≡ written expressionFields gs (expressionIn k (left n at ks vs)))
-      → r ≡ setPass w fs (left n at ks vs)
+      → r ≡ expressionPass gs (left n at ks vs) → r ≡ setPass w fs (left n at ks vs)
   set-read w e h =
-      whole-expression ks vs n at gs r h
+      h
       ∙ ap (λ l. written expressionFields l (expression (left n at ks vs))) e
       ∙ set-expression fs w (expression (left n at ks vs))
 
   pub send-read : gs ≡ fs ++ (SendField ∷ [])
-      → Enough n at (λ k. r ≡ written expressionFields gs (bracketedBy (expressionIn k) (left n at ks vs)))
-      → r ≡ sendPass fs (left n at ks vs)
+      → r ≡ written expressionFields gs (bracketedBy expression (left n at ks vs)) → r ≡ sendPass fs (left n at ks vs)
   send-read e h =
-      h (length (left n at ks vs)) (omega (arith, left-length ks vs n at))
+      h
       ∙ ap (λ l. written expressionFields l (bracketedBy expression (left n at ks vs))) e
       ∙ send-expression fs (expression (left n at ks vs))
 

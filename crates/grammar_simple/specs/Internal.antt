@@ -7,7 +7,7 @@ use Rattle.sheet.specs.Fields.{simpleFields}
 use Rattle.source.specs.declared.Token.{Token}
 use Rattle.source.specs.Tokens.{markClose}
 use Rattle.source.specs.Grammar.{Read, read, next, past, expression, simpleAt}
-use Rattle.grammar_expression.specs.Internal.{written}
+use Rattle.grammar_output.specs.Internal.{written}
 
 abbrev pub setPass : ℕ → List Field → List Token → Read (List Field)
 setPass w fs ts = written simpleFields fs (next (expression ts) (λ e rest. read (set w e) rest))

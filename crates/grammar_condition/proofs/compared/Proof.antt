@@ -11,7 +11,7 @@ use Rattle.grammar_condition.proofs.compared.Tie as tie
 returns : tie.Need-returns
 returns c =
     let c₁ = c .before .before .before .before in
-    (tt, compared-missing _ _ _ _ _ (λ k h. rw (c .enum-told .given .1) at (c₁ .expression .ensures .1 k h)))
+    (tt, compared-missing _ _ _ _ _ (rw (c .enum-told .given .1) at (c₁ .expression .ensures .1)))
 
 returns-2 : tie.Need-returns-2
 returns-2 c =
@@ -19,7 +19,7 @@ returns-2 c =
     let c₂ = c₁ .before .before in
     let c₃ = c₂ .before .before .before .before in (
       tt,
-      compared-unrelated _ _ _ _ _ _ _ (λ k h. rw (c₂ .first .given .1) at (c₃ .expression .ensures .1 k h))
+      compared-unrelated _ _ _ _ _ _ _ (rw (c₂ .first .given .1) at (c₃ .expression .ensures .1))
           (sym (c₁ .relation-at .ensures .0) ∙ c .enum-told2 .given .1),
     )
 
@@ -62,7 +62,7 @@ returns-3 c =
     let e = c₂ .s .given .1 in
     let h = subst (relationInside _ _) e (c₃ .relation-at .ensures .1) in (
       (omega (arith, m), omega (arith, h), omega (arith, m), omega (arith, m)),
-      compared-found _ _ _ _ _ _ _ _ _ _ (λ k g. rw (c₄ .first .given .1) at (c₅ .expression .ensures .1 k g))
+      compared-found _ _ _ _ _ _ _ _ _ _ (rw (c₄ .first .given .1) at (c₅ .expression .ensures .1))
           (sym (c₃ .relation-at .ensures .0) ∙ e) h (fields-length 0 _ _) (c₁ .insert .ensures),
     )
 

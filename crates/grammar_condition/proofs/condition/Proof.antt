@@ -1,7 +1,7 @@
 use mathlib.Core.Path.{subst}
 use native.Mathlib.Omega.{arith}
 use Rattle.grammar_output.specs.Internal.{Moved}
-use Rattle.grammar_expression.proofs.Operands.{moved-later}
+use Rattle.grammar_expression.proofs.Closing.{moved-later}
 use Rattle.grammar_condition.proofs.Comparisons.{condition-missing, condition-read}
 use borrow.Author.Needs.{needs}
 use Rattle.grammar_condition.proofs.condition.Statement.{statement}

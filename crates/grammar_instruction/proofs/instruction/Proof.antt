@@ -1,7 +1,7 @@
 use Prim.Native.Nat.{_+_}
 use mathlib.Core.Path.{sym, _∙_}
 use native.Mathlib.Omega.{arith}
-use Rattle.grammar_expression.proofs.Operands.{moved-later}
+use Rattle.grammar_expression.proofs.Closing.{moved-later}
 use Rattle.grammar_instruction.proofs.Instructions.{moved-on, whole-moved, if-read, simple-read}
 use borrow.Author.Needs.{needs}
 use Rattle.grammar_instruction.proofs.instruction.Statement.{statement}

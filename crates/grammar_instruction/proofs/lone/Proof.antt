@@ -2,7 +2,7 @@ use Prim.Native.Nat.{_+_}
 use mathlib.Core.Path.{subst}
 use native.Mathlib.Omega.{arith}
 use Rattle.grammar_output.specs.Internal.{Moved}
-use Rattle.grammar_expression.proofs.Operands.{moved-later}
+use Rattle.grammar_expression.proofs.Closing.{moved-later}
 use Rattle.grammar_expression.proofs.Following.{then-found, then-missing}
 use borrow.Author.Needs.{needs}
 use Rattle.grammar_instruction.proofs.lone.Statement.{statement}

@@ -2,7 +2,7 @@ use Rattle.sheet_field.specs.Memory.{fieldsFrom}
 use Prim.Native.Nat.{_+_}
 use mathlib.Core.Path.{sym, _∙_}
 use native.Mathlib.Omega.{arith}
-use Rattle.grammar_expression.proofs.Operands.{moved-later}
+use Rattle.grammar_expression.proofs.Closing.{moved-later}
 use Rattle.grammar_instruction.proofs.Instructions.{else-found, no-else}
 use borrow.Author.Needs.{needs}
 use Rattle.grammar_instruction.proofs.otherwise.Statement.{statement}

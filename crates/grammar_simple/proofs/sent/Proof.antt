@@ -1,6 +1,6 @@
 use Prim.Native.Nat.{_+_}
 use native.Mathlib.Omega.{arith}
-use Rattle.grammar_expression.proofs.Operands.{moved-later}
+use Rattle.grammar_expression.proofs.Closing.{moved-later}
 use Rattle.grammar_simple.proofs.Openings.{send-read}
 use borrow.Author.Needs.{needs}
 use Rattle.grammar_simple.proofs.sent.Statement.{statement}

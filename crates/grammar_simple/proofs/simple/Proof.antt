@@ -2,7 +2,7 @@ use mathlib.Core.Path.{sym, subst, _∙_}
 use Prim.Native.Nat.{_+_}
 use native.Mathlib.Omega.{arith}
 use Rattle.grammar_look.specs.Internal.{openingInside}
-use Rattle.grammar_expression.proofs.Operands.{moved-later}
+use Rattle.grammar_expression.proofs.Closing.{moved-later}
 use Rattle.grammar_simple.proofs.Openings.{simple-set, simple-send, simple-goto, simple-none}
 use borrow.Author.Needs.{needs}
 use Rattle.grammar_simple.proofs.simple.Statement.{statement}

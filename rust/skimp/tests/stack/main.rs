@@ -13,7 +13,7 @@ use region::Region;
 
 const SEGMENTATION_FAULT: i32 = 11;
 
-/// Read-back and run need less. Compile needs more: the table of names and brackets opened to the last cell of a statement.
+/// Each call needs less.
 const MOST_BYTES: usize = 96 * 1024;
 
 /// Names the call and the bytes of stack in the environment of the process that tries them.
@@ -82,8 +82,7 @@ fn measured() {
         let (used, named) = (most_used(call), call.stack_bytes());
         let enough = used + used / 20;
         let says = format!("{call:?}: {used} bytes used, {named} named");
-        let few = named < MOST_BYTES || call == Call::Compile;
-        assert!(few, "more than the call is to need: {says}");
+        assert!(named < MOST_BYTES, "more than the call is to need: {says}");
         assert!(enough <= named, "too few are named: {says}");
         // otherwise the worst input is missing here, or the name is old
         let too_many = used + used / 4;

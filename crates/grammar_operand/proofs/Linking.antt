@@ -17,10 +17,10 @@ use Rattle.source.specs.Grammar.{Lead, bare, minus, invert, start, highest}
 use Rattle.source.proofs.Joining.{Front, nothing, negation, leftOf, behindFront, treeFrom, tree-end, tree-high, tree-middle}
 use Rattle.source.proofs.Joining.{tree-low, leadFront, tree-whole, by-level}
 use Rattle.grammar_output.specs.declared.Places.{Places}
-use Rattle.grammar_output.specs.Internal.{insertAt, placeFor, placesAfter}
+use Rattle.grammar_output.specs.Internal.{written, insertAt, placeFor, placesAfter}
 use Rattle.grammar_output.proofs.Shifting.{insert-at-seam}
 use Rattle.grammar_lead.specs.Internal.{leadFields, upperPlace}
-use Rattle.grammar_expression.specs.Internal.{written, linksPass}
+use Rattle.grammar_operand.specs.Internal.{linksPass, operandPass}
 
 -- the fields of a front, and those of what is behind it
 abbrev frontFields : Front → List Field
@@ -205,35 +205,15 @@ module _ (inner : List Token → Read Expression) where
   whole-tree l fs e none = refl
   whole-tree l fs e (read ls rest) = ap (λ t. read (fs ++ expressionFields t) rest) (sym (tree-whole l e ls))
 
-  chain-from : (k : ℕ) (l : Lead) (fs gs : List Field) (rest : List Token) (p : Places) (x : Read Expression)
-      → read gs rest ≡ written expressionFields (fs ++ leadFields l) x → p ≡ startPlaces l (length fs)
-      → linksPass inner k p gs rest
+  chain-from : (k : ℕ) (l : Lead) (fs : List Field) (x : Read Expression)
+      → next x (λ e rest. linksPass inner k (startPlaces l (length fs)) (fs ++ leadFields l ++ expressionFields e) rest)
       ≡ written expressionFields fs
       (next x (λ e others. next (linksBy inner k others) (λ ls more. read (tree l e ls) more)))
   unfolding written next
-  chain-from k l fs gs rest p none e same = let z : _≡_ {A = ℕ} 0 1 = cc in absurd (omega arith)
-  chain-from k l fs gs rest p (read a others) e same =
-      let all : gs ≡ fs ++ leadFields l ++ expressionFields a = cc in
-      let behind : rest ≡ others = cc in
-      ap₂ (λ g m. linksPass inner k p g m) all behind
-      ∙ ap (λ q. linksPass inner k q (fs ++ leadFields l ++ expressionFields a) others) same
-      ∙ chain-lead k l fs a others
-      ∙ whole-tree l fs a (linksBy inner k others)
+  chain-from k l fs none = refl
+  chain-from k l fs (read e others) = chain-lead k l fs e others ∙ whole-tree l fs e (linksBy inner k others)
 
-  pub chain-agrees : (k : ℕ) (l : Lead) (fs gs : List Field) (ts rest : List Token) (p : Places)
-      → read gs rest ≡ written expressionFields (fs ++ leadFields l) (operandBy inner ts)
-      → p ≡ startPlaces l (length fs)
-      → linksPass inner k p gs rest ≡ written expressionFields fs (chainBy inner k (start l ts))
-  chain-agrees k l fs gs ts rest p e same = chain-from k l fs gs rest p (operandBy inner ts) e same
-
-  pub chain-none : (k : ℕ) (l : Lead) (fs : List Field) (ts : List Token)
-      → none ≡ written expressionFields (fs ++ leadFields l) (operandBy inner ts)
-      → none ≡ written expressionFields fs (chainBy inner k (start l ts))
-  unfolding written next
-  chain-none k l fs ts e = go (operandBy inner ts) e
-    where
-      go : (x : Read Expression) → none ≡ written expressionFields (fs ++ leadFields l) x
-          → none ≡ written expressionFields fs
-          (next x (λ e others. next (linksBy inner k others) (λ ls more. read (tree l e ls) more)))
-      go none d = refl
-      go (read a others) d = let z : _≡_ {A = ℕ} 0 1 = cc in absurd (omega arith)
+  pub chain-agrees : (k : ℕ) (l : Lead) (fs : List Field) (ts : List Token)
+      → operandPass inner k (startPlaces l (length fs)) (fs ++ leadFields l) ts
+      ≡ written expressionFields fs (chainBy inner k (start l ts))
+  chain-agrees k l fs ts = chain-from k l fs (operandBy inner ts)

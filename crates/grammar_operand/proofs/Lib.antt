@@ -1,0 +1,4 @@
+pub mod Linking
+pub mod Operands
+pub mod Links
+pub mod Nesting
