@@ -13,12 +13,13 @@ use Rattle.source.specs.declared.Mode.{Mode}
 use Rattle.source.specs.declared.Mode.the-variants.{Plain}
 use Rattle.source.specs.Cells.{turn, ended, _then_, onTurn, sourceEnd, statementsFrom}
 use Rattle.source.specs.Source.{offset, allAllowed, isAllowed, notAllowed}
-use Rattle.cells.specs.declared.byte.Ending.the-variants.{Whole, Nothing, Cut as CutEnd}
+use Rattle.cells_byte.specs.declared.Ending.the-variants.{Whole, Nothing, Cut as CutEnd}
 use Rattle.cells.specs.declared.Step.the-variants.{On, Ends, Over}
 use Rattle.cells.specs.declared.Reading.the-variants.{Statement, Ended, Cut}
 use Rattle.cells.specs.Answers.{stopped, offsetBehind}
-use Rattle.cells.specs.Internal.{endingOf, lastHeld, Stepped, Gathered}
-use Rattle.cells.proofs.Changes.{EndFits, end-fits}
+use Rattle.cells_byte.specs.Internal.{endingOf}
+use Rattle.cells.specs.Internal.{lastHeld, Stepped, Gathered}
+use Rattle.cells_byte.proofs.Changes.{EndFits, end-fits}
 use Rattle.cells.proofs.Steps.{ends-as}
 
 -- ---- bytes that are not allowed

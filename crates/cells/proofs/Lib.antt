@@ -1,4 +1,2 @@
-pub mod Letters
-pub mod Changes
 pub mod Steps
 pub mod Bytes

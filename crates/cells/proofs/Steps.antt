@@ -11,12 +11,13 @@ use Rattle.base.specs.Choice.{pick}
 use Rattle.source.specs.declared.Mode.{Mode}
 use Rattle.source.specs.declared.Mode.the-variants.{Plain}
 use Rattle.source.specs.Cells.{goesOn, turn, sourceEnd}
-use Rattle.cells.specs.declared.byte.Change.{Change}
-use Rattle.cells.specs.declared.byte.Change.the-variants.{Keep, Skip, Shorten, End, Over}
-use Rattle.cells.specs.declared.byte.Ending.{Ending}
+use Rattle.cells_byte.specs.declared.Change.{Change}
+use Rattle.cells_byte.specs.declared.Change.the-variants.{Keep, Skip, Shorten, End, Over}
+use Rattle.cells_byte.specs.declared.Ending.{Ending}
 use Rattle.cells.specs.declared.Step.the-variants.{On, Ends, Over as StepOver}
-use Rattle.cells.specs.Internal.{changeOf, endingOf, lastHeld, Stepped}
-use Rattle.cells.proofs.Changes.{turned, changed, Fits, change-fits, closed, source-ended}
+use Rattle.cells_byte.specs.Internal.{changeOf, endingOf}
+use Rattle.cells.specs.Internal.{lastHeld, Stepped}
+use Rattle.cells_byte.proofs.Changes.{turned, changed, Fits, change-fits, closed, source-ended}
 
 -- the last cell held is the array's
 pub last-cell : (held : ℕ) (cells : List ℕ) → lastHeld held cells ≡ getD (take held cells) (held - 1) 0

@@ -1,8 +1,8 @@
 // From bytes to statements, document 01. Comments in quotes are document 01's words.
-mod byte;
-
-use byte::Change;
-use byte::Ending;
+use cells_byte::Change;
+use cells_byte::Ending;
+use cells_byte::at_end;
+use cells_byte::change_by;
 use source::MOST_CELLS;
 use source::Mode;
 use source::Statement;
@@ -93,7 +93,7 @@ fn take_byte(cells: &mut [u8], mode: Mode, held: usize, b: u8) -> Step
     ensures { λ r. ⌜ Stepped (now (cells .exit)) held r (turn mode b (take held (now (cells .entry)))) ⌝ }
 {
     let last = last_held(cells, held);
-    match byte::change_by(mode, b, held, last) {
+    match change_by(mode, b, held, last) {
         Change::Keep(c, m) => {
             base::put_byte(cells, held, c);
             Step::On(m, held + 1)
@@ -131,7 +131,7 @@ fn gather(source: &[u8], at: usize, cells: &mut [u8]) -> Gathering
         }
     }
     let last = last_held(cells, held);
-    match byte::at_end(mode, held, last) {
+    match at_end(mode, held, last) {
         Ending::Whole => Gathering {
             length: held,
             reading: Reading::Statement(i),
