@@ -11,10 +11,10 @@ use Rattle.sheet_text.proofs.put_fields.Tie as tie
 use borrow.Author.Needs.{needs}
 
 abbrev Inv-loop : tie.InvT-loop
-Inv-loop buffer₀ at fields j₀ i₀ buffer j i = (putAll (fieldsText (fieldsAt i fields)) (placed j buffer) ≡ putAll (fieldsText (fieldsAt 0 fields)) (placed at buffer₀)) × (length buffer ≡ length buffer₀)
+Inv-loop buffer₀ at fields fronts lengths j₀ i₀ buffer j i = (putAll (fieldsText (fieldsAt i fields)) (placed j buffer) ≡ putAll (fieldsText (fieldsAt 0 fields)) (placed at buffer₀)) × (length buffer ≡ length buffer₀)
 
 abbrev μ-loop : tie.MeasureT-loop
-μ-loop buffer₀ at fields j₀ i₀ buffer j i = length fields - i
+μ-loop buffer₀ at fields fronts lengths j₀ i₀ buffer j i = length fields - i
 
 loop-holds : tie.Need-loop-holds Inv-loop μ-loop
 loop-holds c = (refl, refl)
@@ -32,7 +32,7 @@ same-length : tie.Need-same-length Inv-loop μ-loop
 same-length c = c .before .before .put-byte2 .kept .0 ∙ c .before .before .before .before .before .loop .inv .1
 
 returns : tie.Need-returns Inv-loop μ-loop
-returns c = c .before .before .put-byte2 .ensures ∙ put-over (c .before .before .before .before .before .before .before .before .args .fields .now) _ _ (c .before .before .before .before .loop-test .left) ∙ c .before .before .before .before .before .loop .inv .0
+returns c = c .before .before .put-byte2 .ensures ∙ put-over (c .before .before .before .before .before .before .before .before .before .before .args .fields .now) _ _ (c .before .before .before .before .loop-test .left) ∙ c .before .before .before .before .before .loop .inv .0
 
 pub put-fields-spec : {M : Type 1} → statement M
 put-fields-spec =
