@@ -6,18 +6,23 @@ use mathlib.Core.List.{List, [], _∷_, _++_, map}
 use native.Mathlib.Omega.{arith}
 use native.Mathlib.Nat.{add-assoc}
 use native.Mathlib.Numerals.{add-one}
-use borrow.Author.Tests.{eq-eqb, ne-eqb}
+use borrow.Author.Tests.{lt-ltb, le-ltb, eq-eqb, ne-eqb}
+use lib.Dec.{ltb, leb, eqb}
 use lib.ListN.{length, getD, set, length-append, length-map}
 use lib.Seq.{sets, drop-cons, set-comm}
 use Rattle.base.specs.Choice.{pick}
+use Rattle.base.specs.Places.{each}
+use Rattle.base.proofs.Cases.{by-less}
 use Rattle.base.proofs.Lists.{sets-append}
+use Rattle.base.proofs.Places.{each-at}
 use Rattle.order.specs.declared.Order.{Order}
 use Rattle.order.specs.declared.Order.the-variants.{Store}
-use Rattle.order.specs.Memory.{orderIn}
+use Rattle.order.specs.Memory.{shapes, orderOf, orderIn}
+use Rattle.order.proofs.Numbers.{no-order}
 use Rattle.sheet.specs.declared.Field.{Field}
 use Rattle.sheet_field.specs.Memory.{fieldWord}
 use Rattle.untranslate_expression.specs.declared.Link.the-variants.{Kept, End}
-use Rattle.untranslate_expression.specs.Internal.{ordersAt, firstOrder, behind, takes, pastTaking, loadsLeaf, linkBy, linkOf}
+use Rattle.untranslate_expression.specs.Internal.{ordersAt, firstOrder, behind, takes, isSingle, pastTaking, loadsLeaf, linkBy, linkOf}
 use Rattle.untranslate_expression.specs.Internal.{Past, PastWord, Writes, Safe}
 
 -- ---- orders
@@ -54,6 +59,65 @@ module _ (os : List ℕ) (at : ℕ) where
     inside = λ g. g;
     rest = let none = none-outside at os h in none ∙ sym (ap behind none);
   }
+
+-- ---- whether an order is on a word, by its number: those from 12 to 23 are
+
+no-choice : (a b : Bool) → false ≡ pick a false (pick b false false)
+unfolding pick
+no-choice true b = refl
+no-choice false true = refl
+no-choice false false = refl
+
+own-choice : (b : Bool) → b ≡ pick b true false
+unfolding pick
+own-choice true = refl
+own-choice false = refl
+
+module _ (t v : ℕ) where
+  abbrev byNumber : ℕ → Bool
+  byNumber k = pick (ltb k 12) false (pick (ltb k 24) (eqb v t) false)
+
+  all-taken : each (λ k. takes t (orderOf k v)) 0 37 ≡ each byNumber 0 37
+  unfolding each orderOf shapes pick
+  all-taken = refl
+
+  taken-over : (k : ℕ) → 37 ≤ k → takes t (orderOf k v) ≡ byNumber k
+  unfolding pick
+  taken-over k h = rw (← no-order k v h, le-ltb k 12 (omega arith), le-ltb k 24 (omega arith)) refl
+
+  taken : (k : ℕ) → takes t (orderOf k v) ≡ byNumber k
+  taken k = by-less k 37 (λ h. each-at (λ j. takes t (orderOf j v)) byNumber 37 all-taken k h) (taken-over k)
+
+  module _ (k : ℕ) where
+    pub other-word : (v ≡ t → ⊥) → false ≡ takes t (orderOf k v)
+    other-word h = rw (taken k, ne-eqb v t h) (no-choice (ltb k 12) (ltb k 24))
+
+    pub no-operation : k < 12 → false ≡ takes t (orderOf k v)
+    unfolding pick
+    no-operation h = rw (taken k, lt-ltb k 12 h) refl
+
+    pub on-word : v ≡ t → 12 ≤ k → ltb k 24 ≡ takes t (orderOf k v)
+    unfolding pick
+    on-word e h = rw (taken k, le-ltb k 12 h, eq-eqb v t e) (own-choice (ltb k 24))
+
+-- ---- whether an order is a link by itself, by its number
+
+abbrev pub singleBy : ℕ → Bool
+singleBy k = pick (ltb k 4) (leb 2 k) (pick (ltb k 13) false (pick (eqb k 24) false (ltb k 36)))
+
+module _ (v : ℕ) where
+  all-single : each (λ k. isSingle (orderOf k v)) 0 37 ≡ each singleBy 0 37
+  unfolding each orderOf shapes pick
+  all-single = refl
+
+  none-single : (k : ℕ) → 37 ≤ k → isSingle (orderOf k v) ≡ singleBy k
+  unfolding pick
+  none-single k h =
+      rw (← no-order k v h, le-ltb k 4 (omega arith), le-ltb k 13 (omega arith), ne-eqb k 24 (λ e. omega (arith, e)), le-ltb k 36 (omega arith))
+      refl
+
+  pub single-told : (k : ℕ) → isSingle (orderOf k v) ≡ singleBy k
+  single-told k = by-less k 37 (λ h. each-at (λ j. isSingle (orderOf j v)) singleBy 37 all-single k h) (none-single k)
 
 -- ---- the first order on a word, from place `at` on: none so far up to j
 

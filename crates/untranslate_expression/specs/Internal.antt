@@ -128,6 +128,24 @@ linkBy first t Stop q = End
 abbrev pub linkOf : ℕ → ℕ → List Order → Link
 linkOf first t l = linkBy first t (firstOrder l) (firstOrder (behind l))
 
+-- an order that is a link by itself, whatever is behind it
+abbrev pub joinsOne : Use → Bool
+joinsOne Loads = false
+joinsOne (Joins o) = true
+joinsOne Compares = true
+
+abbrev pub isSingle : Order → Bool
+isSingle (Word f w) = joinsOne (useOf f)
+isSingle (Number f n) = joinsOne (useOf f)
+isSingle (Store w) = false
+isSingle Neg = true
+isSingle Not = true
+isSingle (Jump a) = false
+isSingle (Skip a) = false
+isSingle (Branch r a) = false
+isSingle Send = false
+isSingle Stop = false
+
 -- what is behind a link that the orders l begin with
 abbrev pub pastLink : ℕ → Link → List Order → List Order
 pastLink t (Unary f) l = behind l
