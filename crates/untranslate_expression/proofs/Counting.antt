@@ -15,7 +15,7 @@ use Rattle.untranslate_expression.specs.declared.Use.{Use}
 use Rattle.untranslate_expression.specs.declared.Use.the-variants.{Loads, Joins, Compares}
 use Rattle.untranslate_expression.specs.declared.Link.{Link}
 use Rattle.untranslate_expression.specs.declared.Link.the-variants.{Unary, Plain, Kept, End}
-use Rattle.untranslate_expression.specs.Internal.{ordersAt, firstOrder, behind, useOf, joinsOne, isSingle, joinedBy, linkBy, pastTaking, linkOf, pastLink, Linkage, linkCode, linksCode, LinksGood}
+use Rattle.untranslate_expression.specs.Internal.{ordersAt, firstOrder, behind, useOf, joinsOne, isSingle, joinedBy, linkBy, pastLoad, linkOf, pastLink, Linkage, linkCode, linksCode, LinksGood}
 use Rattle.untranslate_expression.specs.Internal.{Past, PastWord, PastLink, Left, Counting, Counts}
 use Rattle.untranslate_expression.proofs.Places.{orders-behind, first-inside, none-outside}
 use Rattle.untranslate_expression.proofs.Links.{seen, link-seen, link-past, link-told}
@@ -85,7 +85,7 @@ module _ (os : List ℕ) (at first t : ℕ) where
     inside = λ g. past .inside (word .inside (omega arith));
     rest =
         past .rest
-        ∙ ap behind (word .rest ∙ ap (λ l. pastTaking t l) (orders-behind at os))
+        ∙ ap behind (word .rest ∙ ap (λ l. pastLoad t l) (orders-behind at os))
         ∙ ap (λ k. pastLink t k (ordersAt at os)) known;
   }
 

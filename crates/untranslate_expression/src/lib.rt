@@ -12,7 +12,7 @@ ghost use mathlib.Core.Path.{_≡_};
 ghost use Prim.Native.Nat.{_<_};
 ghost use lib.ListN.{length};
 ghost use Rattle.order.specs.Memory.{orderIn};
-ghost use Rattle.untranslate_expression.specs.Internal.{ordersAt, firstOrder, useOf, leafOf, loadsLeaf, takes, isSingle, operatorOf, joinedBy, linkOf};
+ghost use Rattle.untranslate_expression.specs.Internal.{ordersAt, firstOrder, useOf, leafOf, loadsLeaf, loads, isSingle, operatorOf, joinedBy, linkOf};
 ghost use Rattle.untranslate_expression.specs.Internal.{Past, PastWord, PastLink, Counts, NextWord, LeafPlace, Put, Leaf, Reading, Linking};
 
 // What an operation does with its operand.
@@ -112,18 +112,11 @@ fn loads_leaf(o: Order, first: u32) -> bool
     }
 }
 
-// Whether the operand of the order that a number stands for is a word. Few are that word, so this is asked first.
-fn takes_word(x: u64, word: u32) -> bool
-    ensures { λ r. ⌜ r ≡ takes word (orderIn x) ⌝ }
+// Whether the order that a number stands for is LOAD of a word, whose number is 12.
+fn loads_word(x: u64, word: u32) -> bool
+    ensures { λ r. ⌜ r ≡ loads word (orderIn x) ⌝ }
 {
-    if (x % 4294967296) as u32 != word {
-        return false;
-    }
-    let k = x / 4294967296;
-    if k < 12 {
-        return false;
-    }
-    k < 24
+    x == 51539607552 + word as u64
 }
 
 // An operation on a plain operand as a link.
@@ -204,13 +197,13 @@ fn is_single(x: u64) -> bool
     k < 36
 }
 
-// The place behind the first order on a word.
+// The place behind the first LOAD of a word.
 fn past_word(orders: &[u64], at: usize, word: u32) -> usize
     ensures { λ r. ⌜ PastWord (now (orders .entry)) at word r ⌝ }
 {
     let mut j = at;
     while j < orders.len() {
-        if takes_word(orders[j], word) {
+        if loads_word(orders[j], word) {
             return j + 1;
         }
         j += 1;
@@ -218,7 +211,7 @@ fn past_word(orders: &[u64], at: usize, word: u32) -> usize
     j
 }
 
-// The place behind the link at a place, or that place where there is none. A right operand that is worked out never names the
+// The place behind the link at a place, or that place where there is none. A right operand that is worked out never loads the
 // temporary that keeps the left one: its orders end with the LOAD of that and the order behind. Most links are single orders, which
 // are told by their numbers.
 fn past_link(orders: &[u64], at: usize, first: u32, word: u32) -> usize
