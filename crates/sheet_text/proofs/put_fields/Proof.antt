@@ -1,10 +1,10 @@
 use Prim.Native.Nat.{_-_}
-use mathlib.Core.Path.{_≡_, refl, _∙_}
+use mathlib.Core.Path.{_≡_, refl, ap, _∙_}
 use native.Mathlib.Omega.{arith}
 use lib.ListN.{length}
 use Rattle.text.specs.Internal.{placed, putAll}
 use Rattle.sheet_field.specs.Memory.{fieldsAt}
-use Rattle.sheet_text.specs.TextOfFields.{fieldsText}
+use Rattle.sheet_text.specs.TextOfFields.{separator, fieldsText}
 use Rattle.sheet_text.proofs.Writing.{put-turn, put-over}
 use Rattle.sheet_text.proofs.put_fields.Statement.{statement}
 use Rattle.sheet_text.proofs.put_fields.Tie as tie
@@ -24,7 +24,7 @@ loop-less c = omega arith
 
 loop-again : tie.Need-loop-again Inv-loop μ-loop
 loop-again c = (
-  put-turn _ _ _ _ _ _ _ (c .before .before .before .before .before .before .before .before .before .before .before .loop-test .taken) (c .before .before .before .before .before .before .before .before .before .field-in .ensures) (c .before .before .before .before .before .before .before .separator-of .ensures) (c .before .before .before .before .before .before .put-byte .ensures) (c .before .before .put-field .ensures) ∙ c .before .before .before .before .before .before .before .before .before .before .before .before .loop .inv .0,
+  put-turn _ _ _ _ _ _ _ (c .before .before .before .before .before .before .before .before .before .before .before .loop-test .taken) refl (c .before .before .before .before .before .before .before .separator-of .ensures ∙ ap separator (c .before .before .before .before .before .before .before .before .field-in .ensures)) (c .before .before .before .before .before .before .put-byte .ensures) (c .before .before .put-field .ensures) ∙ c .before .before .before .before .before .before .before .before .before .before .before .before .loop .inv .0,
   c .before .before .put-field .kept .0 ∙ c .before .before .before .before .before .before .put-byte .kept .0 ∙ c .before .before .before .before .before .before .before .before .before .before .before .before .loop .inv .1,
 )
 

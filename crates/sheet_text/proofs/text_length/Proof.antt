@@ -1,5 +1,5 @@
 use Prim.Native.Nat.{_+_, _-_, _≤_}
-use mathlib.Core.Path.{_≡_}
+use mathlib.Core.Path.{_≡_, refl}
 use native.Mathlib.Omega.{arith}
 use lib.ListN.{length}
 use Rattle.sheet_field.specs.Memory.{fieldsAt}
@@ -36,16 +36,16 @@ add-more c = record { fits = omega (arith, c .field-length .ensures .1) }
 
 returns-2 : tie.Need-returns-2 Inv-loop μ-loop
 returns-2 c =
-    let t = count-turn (c .before .before .before .before .before .before .before .before .before .before .before .args .fields .now) _ _ (c .before .before .field-in .ensures) (c .before .before .before .before .loop-test .taken) in
-    omega (arith, t, c .before .before .before .before .before .loop .inv .0, c .before .field-length .ensures .0, some-text (fieldsAt (c .before .before .before .before .before .loop .i + 1) (c .before .before .before .before .before .before .before .before .before .before .before .args .fields .now)), c .if2 .taken)
+    let t = count-turn (c .before .before .before .before .before .before .before .before .before .before .args .fields .now) _ _ refl (c .before .before .before .loop-test .taken) in
+    omega (arith, t, c .before .before .before .before .loop .inv .0, c .before .field-length .ensures .0, some-text (fieldsAt (c .before .before .before .before .loop .i + 1) (c .before .before .before .before .before .before .before .before .before .before .args .fields .now)), c .if2 .taken)
 
 loop-less : tie.Need-loop-less Inv-loop μ-loop
 loop-less c = omega arith
 
 loop-again : tie.Need-loop-again Inv-loop μ-loop
 loop-again c =
-    let t = count-turn (c .before .before .before .before .before .before .before .before .before .before .before .args .fields .now) _ _ (c .before .before .field-in .ensures) (c .before .before .before .before .loop-test .taken) in
-    (omega (arith, t, c .before .before .before .before .before .loop .inv .0, c .before .field-length .ensures .0, c .if2 .left), omega (arith, c .before .before .before .before .before .loop .inv .1))
+    let t = count-turn (c .before .before .before .before .before .before .before .before .before .before .args .fields .now) _ _ refl (c .before .before .before .loop-test .taken) in
+    (omega (arith, t, c .before .before .before .before .loop .inv .0, c .before .field-length .ensures .0, c .if2 .left), omega (arith, c .before .before .before .before .loop .inv .1))
 
 returns-3 : tie.Need-returns-3 Inv-loop μ-loop
 returns-3 c =
@@ -66,7 +66,6 @@ text-length-spec =
     loop-holds
     (λ c. search needs)
     (λ c. search needs)
-    (λ c κs. search needs)
     (λ c κs. search needs)
     add-more
     returns-2
