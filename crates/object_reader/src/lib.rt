@@ -4,6 +4,7 @@ use order::MOST_TEMPORARIES;
 use order::MOST_VARIABLES;
 use order::Order;
 use order_number::put_order;
+use order_record::RECORDS;
 use order_record::Record;
 use order_record::record_at;
 use text::read::Numeral;
@@ -17,6 +18,7 @@ ghost use lib.ListN.{drop};
 ghost use lib.Seq.{sets};
 ghost use Rattle.order.specs.Memory.{orderWord};
 ghost use Rattle.order.specs.Object.{headerAt, withinLimits, linesAt, linesOf, reading, isStop};
+ghost use Rattle.order_record.specs.Internal.{recordTable};
 ghost use Rattle.object_reader.specs.Answers.{verdict, verdictOf};
 ghost use Rattle.object_reader.specs.Internal.{headerFound, headerBounded, wordTrouble, addressTrouble, troubleOf, firstTrouble};
 ghost use Rattle.object_reader.specs.Internal.{nextStop, notedScan, ScanOf, stopVerdict, scanVerdict};
@@ -188,7 +190,8 @@ fn noted(scan: Scan, o: Order, at: usize, words: u32, n: u32) -> Scan
 }
 
 // Reads the good lines from a place on, at most n of them, into the array as far as it reaches.
-fn read_lines(s: &[u8], at: usize, words: u32, n: u32, orders: &mut [u64]) -> Scan
+fn read_lines(s: &[u8], at: usize, words: u32, n: u32, orders: &mut [u64], records: &[u8]) -> Scan
+    requires { ⌜ now records ≡ recordTable ⌝ }
     ensures scanned { λ r. ⌜ ScanOf words n (now (s .entry)) (linesAt n (drop at (now (s .entry)))) r ⌝ }
     ensures ordered { λ _. ⌜ now (orders .exit) ≡ sets (now (orders .entry)) 0 (map orderWord (linesAt n (drop at (now (s .entry))) .orders)) ⌝ }
 {
@@ -199,7 +202,7 @@ fn read_lines(s: &[u8], at: usize, words: u32, n: u32, orders: &mut [u64]) -> Sc
         stop: 0,
     };
     while scan.count < n {
-        match record_at(s, scan.at) {
+        match record_at(s, scan.at, records) {
             Record::Found(o, i) => {
                 put_order(orders, scan.count as usize, o);
                 scan = noted(scan, o, i, words, n);
@@ -253,7 +256,7 @@ pub fn read(s: &[u8], orders: &mut [u64]) -> Reading
 {
     match header_at(s) {
         Head::Found(v, t, n, at) => {
-            let scan = read_lines(s, at, v + t + 2, n, orders);
+            let scan = read_lines(s, at, v + t + 2, n, orders, &RECORDS);
             judged(scan, s.len(), v, t, n)
         }
         Head::Missing => Reading::Header,

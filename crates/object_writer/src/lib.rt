@@ -1,6 +1,7 @@
 // The text of an object, written into a lent buffer.
 use order::MOST_ORDERS;
 use order_number::order_in;
+use order_record::RECORDS;
 use order_record::put_record;
 use order_record::record_length;
 use text::write::decimal_length;
@@ -15,6 +16,7 @@ ghost use Rattle.text.specs.Internal.{placed, putAll};
 ghost use Rattle.order.specs.Limits.{mostOrders};
 ghost use Rattle.order.specs.Memory.{ordersIn};
 ghost use Rattle.order.specs.Object.{recordsText, headerText, text};
+ghost use Rattle.order_record.specs.Internal.{recordTable};
 ghost use Rattle.object_writer.specs.Answers.{written, replyFor, WhereFew};
 
 // What became of a text: its length, or that the buffer is shorter than it.
@@ -45,27 +47,28 @@ fn header_length(v: u32, t: u32, n: u32) -> usize
 }
 
 // The length of the text that `write` writes.
-fn text_length(orders: &[u64], v: u32, t: u32) -> usize
-    requires { ⌜ length (now orders) ≤ mostOrders ⌝ }
+fn text_length(orders: &[u64], v: u32, t: u32, records: &[u8]) -> usize
+    requires { ⌜ (length (now orders) ≤ mostOrders) × (now records ≡ recordTable) ⌝ }
     ensures { λ r. ⌜ r ≡ length (text v t (ordersIn (now (orders .entry)))) ⌝ }
 {
     let mut total = header_length(v, t, orders.len() as u32);
     let mut i: usize = 0;
     while i < orders.len() {
-        total += record_length(order_in(orders[i]));
+        total += record_length(order_in(orders[i]), records);
         i += 1;
     }
     total
 }
 
 // The records of the orders.
-fn put_records(buffer: &mut [u8], at: usize, orders: &[u64]) -> usize
+fn put_records(buffer: &mut [u8], at: usize, orders: &[u64], records: &[u8]) -> usize
+    requires { ⌜ now records ≡ recordTable ⌝ }
     ensures { λ r. ⌜ placed r (now (buffer .exit)) ≡ putAll (recordsText (ordersIn (now (orders .entry)))) (placed at (now (buffer .entry))) ⌝ }
 {
     let mut j = at;
     let mut i: usize = 0;
     while i < orders.len() {
-        j = put_record(buffer, j, order_in(orders[i]));
+        j = put_record(buffer, j, order_in(orders[i]), records);
         i += 1;
     }
     j
@@ -80,11 +83,11 @@ pub fn write(orders: &[u64], v: u32, t: u32, buffer: &mut [u8]) -> Written
     if (MOST_ORDERS as usize) < orders.len() {
         return Written::Short;
     }
-    let total = text_length(orders, v, t);
+    let total = text_length(orders, v, t, &RECORDS);
     if buffer.len() < total {
         return Written::Short;
     }
     let at = put_header(buffer, 0, v, t, orders.len() as u32);
-    put_records(buffer, at, orders);
+    put_records(buffer, at, orders, &RECORDS);
     Written::Whole(total)
 }

@@ -1,6 +1,6 @@
 -- The one order whose name and kind may stand at the front of a text, and the record that is read with them.
 use Prim.Native.Nat.{ℕ, _+_, _*_, _-_, _%_, _<_}
-use mathlib.Core.Path.{_≡_, refl, sym, ap, subst}
+use mathlib.Core.Path.{_≡_, refl, sym, ap, subst, _∙_}
 use mathlib.Core.List.{List, _∷_, _++_}
 use borrow.Author.Tests.{lt-ltb, eq-eqb, ne-eqb}
 use lib.Dec.{ltb, eqb}
@@ -18,15 +18,12 @@ use Rattle.order.specs.Memory.{number, shapes, orderOf}
 use Rattle.order.specs.Object.{heading, recordAt}
 use Rattle.order.proofs.Numbers.{number-below}
 use Rattle.order.proofs.Records.{heading-read, read-heading}
-use Rattle.order_record.specs.Internal.{headingAt, numberAfter, Likely}
+use Rattle.order_record.specs.Internal.{recordTable, headingAt, numberAfter, Likely}
 
 -- ---- the number that `likely` gives: by the sum of three letters, and by the kind
 
-abbrev letters : List ℕ
-letters = bytes "@@Q@@EP@GFR@@@@@SJ@@@@W@C@@@D@@dI@@@@@@@N@@@@@MUKL@@A@O@@HVB@@T@"
-
 abbrev named : ℕ → ℕ → ℕ → ℕ
-named a b c = getD letters ((10 * a + 8 * b + c) % 64) 0 % 64
+named a b c = getD recordTable (296 + (10 * a + 8 * b + c) % 64) 0 % 64
 
 abbrev kinded : List ℕ → ℕ → ℕ
 kinded l k = pick (eqb (getD l (length (heading (orderOf k 0)) - 2) 0) 75) (k + 12) k
@@ -43,15 +40,19 @@ guessed-likely : (front : List ℕ) → Likely front (guessed front)
 guessed-likely front j l h e =
     rw e (each-at (λ k. guessed (take 7 (heading (orderOf k 0) ++ l))) (λ k. k) 37 (all-guessed l) j h)
 
-module _ (front : List ℕ) (a b c n d : ℕ) (p : a ≡ getD front 0 0) (q : b ≡ getD front 1 0) (r : c ≡ getD front 2 0)
-    (m : n ≡ length (heading (orderOf (named a b c) 0))) (k : d ≡ getD front (n - 2) 0) where
-  pub likely-number : d ≡ 75 → Likely front (named a b c + 12)
-  unfolding pick
-  likely-number e = subst (Likely front) (rw (← p, ← q, ← r, ← m, ← k, eq-eqb d 75 e) refl) (guessed-likely front)
+module _ (front table : List ℕ) (own : table ≡ recordTable) (a b c x n d : ℕ) (p : a ≡ getD front 0 0) (q : b ≡ getD front 1 0)
+    (r : c ≡ getD front 2 0) (is-number : x ≡ getD table (296 + (10 * a + 8 * b + c) % 64) 0)
+    (m : n ≡ length (heading (orderOf (x % 64) 0))) (k : d ≡ getD front (n - 2) 0) where
+  told : x ≡ getD recordTable (296 + (10 * a + 8 * b + c) % 64) 0
+  told = is-number ∙ ap (λ t. getD t (296 + (10 * a + 8 * b + c) % 64) 0) own
 
-  pub likely-other : (d ≡ 75 → ⊥) → Likely front (named a b c)
+  pub likely-number : d ≡ 75 → Likely front (x % 64 + 12)
   unfolding pick
-  likely-other e = subst (Likely front) (rw (← p, ← q, ← r, ← m, ← k, ne-eqb d 75 e) refl) (guessed-likely front)
+  likely-number e = subst (Likely front) (rw (← p, ← q, ← r, ← told, ← m, ← k, eq-eqb d 75 e) refl) (guessed-likely front)
+
+  pub likely-other : (d ≡ 75 → ⊥) → Likely front (x % 64)
+  unfolding pick
+  likely-other e = subst (Likely front) (rw (← p, ← q, ← r, ← told, ← m, ← k, ne-eqb d 75 e) refl) (guessed-likely front)
 
 -- ---- the record
 

@@ -22,20 +22,18 @@ use Rattle.order.specs.Memory.{number, shapes, orderOf}
 use Rattle.order.specs.Object.{heading, recordText}
 use Rattle.order.proofs.Numbers.{order-again}
 use Rattle.order.proofs.Records.{heading-at}
-use Rattle.order_record.specs.Internal.{headingAt}
+use Rattle.order_record.specs.Internal.{recordTable, headingAt}
 
 -- ---- headings
 
 -- the length of each, by its digit; and that it is 2 to 7
-abbrev digits : List ℕ
-digits = bytes "7766656666667666666665667666666665667"
-
-all-lengths : each (λ k. getD digits k 0 % 16) 0 37 ≡ each (λ k. length (heading (orderOf k 0))) 0 37
+all-lengths : each (λ k. getD recordTable (259 + k) 0 % 16) 0 37 ≡ each (λ k. length (heading (orderOf k 0))) 0 37
 unfolding each bytes orderOf shapes
 all-lengths = refl
 
-pub heading-length : (k : ℕ) → k < 37 → getD digits k 0 % 16 ≡ length (heading (orderOf k 0))
-heading-length = each-at (λ k. getD digits k 0 % 16) (λ k. length (heading (orderOf k 0))) 37 all-lengths
+pub heading-length : (table : List ℕ) → table ≡ recordTable → (k x : ℕ) → x ≡ getD table (259 + k) 0 → k < 37 → x % 16 ≡ length (heading (orderOf k 0))
+heading-length table own k x e h =
+    rw (e, own) (each-at (λ j. getD recordTable (259 + j) 0 % 16) (λ j. length (heading (orderOf j 0))) 37 all-lengths k h)
 
 module _ (k : ℕ) where
   -- a test of its length, as computed over all of them
@@ -52,15 +50,16 @@ module _ (k : ℕ) where
   unfolding shapes bytes
   heading-long = omega (arith, ltb-true 1 (length (heading (orderOf k 0))) (each-passes (λ n. ltb 1 n) refl refl))
 
--- each stands in its row of seven bytes, as computed over a table of such rows
-abbrev pub InRows : List ℕ → Type 0
-InRows table = each (λ k. take (length (heading (orderOf k 0))) (drop (7 * k) table)) 0 37 ≡ each (λ k. heading (orderOf k 0)) 0 37
+-- each stands in its row of seven bytes
+all-rows : each (λ k. take (length (heading (orderOf k 0))) (drop (7 * k) recordTable)) 0 37 ≡ each (λ k. heading (orderOf k 0)) 0 37
+unfolding each bytes orderOf shapes
+all-rows = refl
 
-module _ (table : List ℕ) (all : InRows table) (k n : ℕ) (row : List ℕ) (e : row ≡ take n (drop (7 * k) table)) where
+module _ (table : List ℕ) (own : table ≡ recordTable) (k n : ℕ) (row : List ℕ) (e : row ≡ take n (drop (7 * k) table)) where
   row-heading : k < 37 → n ≡ length (heading (orderOf k 0)) → row ≡ heading (orderOf k 0)
   row-heading h f =
-      rw (e, f)
-      (each-at (λ j. take (length (heading (orderOf j 0))) (drop (7 * j) table)) (λ j. heading (orderOf j 0)) 37 all k h)
+      rw (e, f, own)
+      (each-at (λ j. take (length (heading (orderOf j 0))) (drop (7 * j) recordTable)) (λ j. heading (orderOf j 0)) 37 all-rows k h)
 
   pub row-read : (l : List ℕ) (r : Front (List ℕ)) → k < 37 → n ≡ length (heading (orderOf k 0)) → r ≡ fixed row l → r ≡ headingAt k l
   unfolding pick

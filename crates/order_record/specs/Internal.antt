@@ -5,6 +5,7 @@ use mathlib.Core.List.{List, _++_}
 use lib.Dec.{ltb, eqb}
 use lib.ListN.{take, drop}
 use Rattle.base.specs.Choice.{pick}
+use Rattle.base.specs.Text.{bytes}
 use Rattle.base.specs.Front.{found, missing, onFront}
 use Rattle.text.specs.Pieces.{Front, fixed, numeral}
 use Rattle.order.specs.declared.Order.{Order}
@@ -13,6 +14,12 @@ use Rattle.order.specs.Memory.{orderOf}
 use Rattle.order.specs.Object.{heading}
 use Rattle.order_record.specs.declared.Record.{Record}
 use Rattle.order_record.specs.declared.Record.the-variants.{Found, Missing as NoRecord}
+
+-- what is known of the orders, by their numbers: their names and kinds, the lengths of these, and numbers by letters
+abbrev pub recordTable : List ℕ
+recordTable =
+    bytes
+    "STOP\t-\tSEND\t-\tNEG\t-\t NOT\t-\t JMP\tA\t BE\tA\t  BNE\tA\t BLT\tA\t BLE\tA\t BGT\tA\t BGE\tA\t STR\tD\t LOAD\tD\tADD\tD\t SUB\tD\t MLT\tD\t DIV\tD\t EXP\tD\t SHL\tD\t SHR\tD\t AND\tD\t OR\tD\t  XOR\tD\t CMP\tD\t LOAD\tK\tADD\tK\t SUB\tK\t MLT\tK\t DIV\tK\t EXP\tK\t SHL\tK\t SHR\tK\t AND\tK\t OR\tK\t  XOR\tK\t CMP\tK\t SKIP\tA\t7766656666667666666665667666666665667@@Q@@EP@GFR@@@@@SJ@@@@W@C@@@D@@dI@@@@@@@N@@@@@MUKL@@A@O@@HVB@@T@"
 
 abbrev pub orderFound : List ℕ → Record → Front Order
 orderFound s (Found o i) = found o (drop i s)

@@ -1,4 +1,5 @@
 // The record of an order in object text: read at a place, and written.
+use base::byte_at;
 use base::part;
 use order::Order;
 use order_number::number_of;
@@ -18,7 +19,7 @@ ghost use lib.ListN.{length, drop};
 ghost use Rattle.text.specs.Internal.{behind, placed, putAll};
 ghost use Rattle.order.specs.Memory.{orderOf};
 ghost use Rattle.order.specs.Object.{heading, recordText, recordAt};
-ghost use Rattle.order_record.specs.Internal.{orderFound, headingAt, numberAfter, Likely};
+ghost use Rattle.order_record.specs.Internal.{recordTable, orderFound, headingAt, numberAfter, Likely};
 
 // An order and the place behind its record, or that no record stands there.
 pub enum Record {
@@ -26,55 +27,58 @@ pub enum Record {
     Missing,
 }
 
-// The names and kinds of the orders, each with the tab behind it, by the numbers of the orders: seven bytes each, a shorter
-// one with spaces behind it.
-const HEADINGS: [u8; 259] = *b"STOP\t-\tSEND\t-\tNEG\t-\t NOT\t-\t JMP\tA\t BE\tA\t  \
+// What is known of the orders, by their numbers. It is lent by those who read or write records, since a function that names it has
+// all of it stored anew at each call. First the names and kinds, each with the tab behind it: seven bytes each, a shorter one with
+// spaces behind it. Then their lengths, as digits. Then the number of an order by a sum of its first three letters, as the character
+// whose code is 64 more; orders with a word stand for those with a number too.
+pub const RECORDS: [u8; 360] = *b"STOP\t-\tSEND\t-\tNEG\t-\t NOT\t-\t JMP\tA\t BE\tA\t  \
     BNE\tA\t BLT\tA\t BLE\tA\t BGT\tA\t BGE\tA\t STR\tD\t \
     LOAD\tD\tADD\tD\t SUB\tD\t MLT\tD\t DIV\tD\t EXP\tD\t \
     SHL\tD\t SHR\tD\t AND\tD\t OR\tD\t  XOR\tD\t CMP\tD\t \
     LOAD\tK\tADD\tK\t SUB\tK\t MLT\tK\t DIV\tK\t EXP\tK\t \
-    SHL\tK\t SHR\tK\t AND\tK\t OR\tK\t  XOR\tK\t CMP\tK\t SKIP\tA\t";
+    SHL\tK\t SHR\tK\t AND\tK\t OR\tK\t  XOR\tK\t CMP\tK\t SKIP\tA\t\
+    7766656666667666666665667666666665667\
+    @@Q@@EP@GFR@@@@@SJ@@@@W@C@@@D@@dI@@@@@@@N@@@@@MUKL@@A@O@@HVB@@T@";
 
-// Their lengths, as digits.
-const HEADING_LENGTHS: [u8; 37] = *b"7766656666667666666665667666666665667";
+// Where the lengths begin, and the numbers by letters.
+const LENGTHS: usize = 259;
 
-// The number of an order by a sum of its first three letters, as the character whose code is 64 more. Orders with a word stand
-// for those with a number too.
-const LIKELY: [u8; 64] = *b"@@Q@@EP@GFR@@@@@SJ@@@@W@C@@@D@@dI@@@@@@@N@@@@@MUKL@@A@O@@HVB@@T@";
+const LETTERS: usize = 296;
 
 // The length of a heading, that of STOP where no order has the number.
-fn heading_length(k: u8) -> usize
+fn heading_length(k: u8, records: &[u8]) -> usize
+    requires { ⌜ now records ≡ recordTable ⌝ }
     ensures exact { λ r. ⌜ r ≡ length (heading (orderOf k 0)) ⌝ }
     ensures few { λ r. ⌜ r ≤ 7 ⌝ }
 {
     if k < 37 {
-        return (HEADING_LENGTHS[k as usize] % 16) as usize;
+        return (byte_at(records, LENGTHS + k as usize) % 16) as usize;
     }
     7
 }
 
 // The name and kind of the order with the number k, if there is one.
-fn heading_at(s: &[u8], at: usize, k: u8) -> Place
+fn heading_at(s: &[u8], at: usize, k: u8, records: &[u8]) -> Place
+    requires { ⌜ now records ≡ recordTable ⌝ }
     ensures { λ r. ⌜ behind (now (s .entry)) r ≡ headingAt k (drop at (now (s .entry))) ⌝ }
 {
     if k < 37 {
-        return fixed_at(s, at, part(&HEADINGS, 7 * k as usize, heading_length(k)));
+        let count = heading_length(k, records);
+        return fixed_at(s, at, part(records, 7 * k as usize, count));
     }
     Place::Missing
 }
 
 // The name and kind of the order with the number k, STOP where there is none.
-fn put_heading(buffer: &mut [u8], at: usize, k: u8) -> usize
+fn put_heading(buffer: &mut [u8], at: usize, k: u8, records: &[u8]) -> usize
+    requires { ⌜ now records ≡ recordTable ⌝ }
     ensures { λ r. ⌜ placed r (now (buffer .exit)) ≡ putAll (heading (orderOf k 0)) (placed at (now (buffer .entry))) ⌝ }
 {
     if k < 37 {
-        return put_fixed(
-            buffer,
-            at,
-            part(&HEADINGS, 7 * k as usize, heading_length(k)),
-        );
+        let count = heading_length(k, records);
+        return put_fixed(buffer, at, part(records, 7 * k as usize, count));
     }
-    put_fixed(buffer, at, part(&HEADINGS, 0, 7))
+    put_fixed(buffer, at, part(records, 0, 7))
 }
 
 // The number in the record of an order with the number k. Kind - has number 0, the operand of its orders.
@@ -95,43 +99,47 @@ fn number_after(s: &[u8], at: usize, k: u8) -> Record
 }
 
 // The number of the one order whose name and kind may stand at the front of a text. Free is what it is where none does.
-fn likely(s: &[u8]) -> u8
+fn likely(s: &[u8], records: &[u8]) -> u8
+    requires { ⌜ now records ≡ recordTable ⌝ }
     ensures { λ r. ⌜ Likely (now (s .entry)) r ⌝ }
 {
-    let a = base::byte_at(s, 0) as usize;
-    let b = base::byte_at(s, 1) as usize;
-    let c = base::byte_at(s, 2) as usize;
-    let k = LIKELY[(10 * a + 8 * b + c) % 64] % 64;
-    if base::byte_at(s, heading_length(k) - 2) == 75 {
+    let a = byte_at(s, 0) as usize;
+    let b = byte_at(s, 1) as usize;
+    let c = byte_at(s, 2) as usize;
+    let k = byte_at(records, LETTERS + (10 * a + 8 * b + c) % 64) % 64;
+    if byte_at(s, heading_length(k, records) - 2) == 75 {
         return k + 12;
     }
     k
 }
 
 // The record at a place: the order whose name and kind stand there, with its number.
-pub fn record_at(s: &[u8], at: usize) -> Record
+pub fn record_at(s: &[u8], at: usize, records: &[u8]) -> Record
+    requires { ⌜ now records ≡ recordTable ⌝ }
     ensures { λ r. ⌜ orderFound (now (s .entry)) r ≡ recordAt (drop at (now (s .entry))) ⌝ }
 {
-    let k = likely(part(s, at, 7));
-    match heading_at(s, at, k) {
+    let k = likely(part(s, at, 7), records);
+    match heading_at(s, at, k, records) {
         Place::Behind(i) => number_after(s, i, k),
         Place::Missing => Record::Missing,
     }
 }
 
 // The record of an order.
-pub fn put_record(buffer: &mut [u8], at: usize, o: Order) -> usize
+pub fn put_record(buffer: &mut [u8], at: usize, o: Order, records: &[u8]) -> usize
+    requires { ⌜ now records ≡ recordTable ⌝ }
     ensures { λ r. ⌜ placed r (now (buffer .exit)) ≡ putAll (recordText o) (placed at (now (buffer .entry))) ⌝ }
 {
-    let i = put_heading(buffer, at, number_of(o));
+    let i = put_heading(buffer, at, number_of(o), records);
     let j = put_decimal(buffer, i, operand_of(o));
     put_byte(buffer, j, 10)
 }
 
 // The length of a record, with a bound by which no sum of lengths overflows.
-pub fn record_length(o: Order) -> usize
+pub fn record_length(o: Order, records: &[u8]) -> usize
+    requires { ⌜ now records ≡ recordTable ⌝ }
     ensures exact { λ r. ⌜ r ≡ length (recordText o) ⌝ }
     ensures few { λ r. ⌜ r ≤ 18 ⌝ }
 {
-    heading_length(number_of(o)) + decimal_length(operand_of(o)) + 1
+    heading_length(number_of(o), records) + decimal_length(operand_of(o)) + 1
 }

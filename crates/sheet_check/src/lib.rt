@@ -27,12 +27,13 @@ pub enum Next {
 }
 
 // How far the fields were read: how many expressions must come before what is next; how many groups are open; which of them are second
-// parts, as the digits of a binary number, the innermost last; and whether the innermost has an instruction.
+// parts, as the digits of a binary number, the innermost last; what is next; and whether the innermost group has an instruction. The
+// two single bytes stand last, so that there is no gap to be copied with the rest.
 pub struct State {
     pub values: u32,
-    pub next: Next,
     pub groups: u32,
     pub seconds: u32,
+    pub next: Next,
     pub some: bool,
 }
 

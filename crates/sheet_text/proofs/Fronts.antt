@@ -18,16 +18,18 @@ use Rattle.sheet.specs.declared.Field.{Field}
 use Rattle.sheet.specs.Fields.{fieldText}
 use Rattle.sheet_field.specs.Memory.{kind, carried, shapes, fieldOf}
 use Rattle.sheet_field.proofs.Stored.{field-again, kind-below}
+use Rattle.sheet_text.specs.Internal.{frontTable, frontLengths}
 
 -- the length of what stands before the number, by its digit
 abbrev pub frontLength : ℕ → ℕ
-frontLength k = getD (bytes "456243311112221121112121145") k 0 % 16
+frontLength k = getD frontLengths k 0 % 16
 
 -- the rule of the table, as computed over it, v being the number that is carried
-abbrev pub Rows : List ℕ → ℕ → Type 0
-Rows table v =
-    each (λ k. take (frontLength k) (drop (6 * k) table) ++ pick (ltb k 23) [] (decimal v)) 0 27
+rows-told : (v : ℕ) →
+    each (λ k. take (frontLength k) (drop (6 * k) frontTable) ++ pick (ltb k 23) [] (decimal v)) 0 27
     ≡ each (λ k. fieldText (fieldOf k v)) 0 27
+unfolding each fieldOf shapes bytes digitsOf pick
+rows-told v = refl
 
 -- the fields' texts themselves, cut before the number, are such a table
 abbrev front : ℕ → List ℕ
@@ -52,15 +54,18 @@ module _ (f : Field) (k : ℕ) (e : k ≡ kind f) where
   again : fieldOf k (carried f) ≡ f
   again = rw e (field-again f)
 
-  module _ (table : List ℕ) (all : Rows table (carried f)) (row : List ℕ) (is-row : row ≡ take (frontLength k) (drop (6 * k) table)) where
+  module _ (table lengths : List ℕ) (own-table : table ≡ frontTable) (own-lengths : lengths ≡ frontLengths) (n : ℕ) (is-length : n ≡ getD lengths k 0) (row : List ℕ) (is-row : row ≡ take (n % 16) (drop (6 * k) table)) where
+    is-front : row ≡ take (frontLength k) (drop (6 * k) frontTable)
+    is-front = rw (is-row, is-length, own-lengths, own-table) refl
+
     whole : row ++ pick (ltb k 23) [] (decimal (carried f)) ≡ fieldText f
     whole =
-        rw is-row
+        rw is-front
         (each-at
-        (λ j. take (frontLength j) (drop (6 * j) table) ++ pick (ltb j 23) [] (decimal (carried f)))
+        (λ j. take (frontLength j) (drop (6 * j) frontTable) ++ pick (ltb j 23) [] (decimal (carried f)))
         (λ j. fieldText (fieldOf j (carried f)))
         27
-        all
+        (rows-told (carried f))
         k
         own)
         ∙ ap fieldText again
@@ -69,9 +74,9 @@ module _ (f : Field) (k : ℕ) (e : k ≡ kind f) where
     unfolding pick
     put-bare p q h g = g ∙ ap (λ l. putAll l p) (sym (append-nil row) ∙ rw (lt-ltb k 23 h) at whole)
 
-    pub put-numbered : (p q r : Placed) (n : ℕ) → 23 ≤ k → n ≡ carried f → q ≡ putAll row p → r ≡ putAll (decimal n) q → r ≡ putAll (fieldText f) p
+    pub put-numbered : (p q r : Placed) (v : ℕ) → 23 ≤ k → v ≡ carried f → q ≡ putAll row p → r ≡ putAll (decimal v) q → r ≡ putAll (fieldText f) p
     unfolding pick
-    put-numbered p q r n h is-number g i =
+    put-numbered p q r v h is-number g i =
         rw (i, g, is-number) (sym (putAll-append row (decimal (carried f)) p)) ∙ ap (λ l. putAll l p) (rw (le-ltb k 23 h) at whole)
 
   counted : frontLength k + length (pick (ltb k 23) [] (decimal (carried f))) ≡ length (fieldText f)

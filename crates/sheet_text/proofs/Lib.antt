@@ -1,3 +1,4 @@
+pub mod ByNumber
 pub mod Fronts
 pub mod Flat
 pub mod Writing

@@ -1,2 +1,3 @@
 pub mod TextOfFields
 pub mod Answers
+pub mod Internal

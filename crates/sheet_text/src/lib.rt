@@ -1,9 +1,8 @@
 // The text of a sheet, written into a lent buffer. A sheet in memory is the array of its fields, in the order of its text.
+use base::byte_at;
 use base::part;
 use sheet::Field;
 use sheet_field::field_in;
-use sheet_field::kind_of;
-use sheet_field::value_of;
 use text::write::decimal_length;
 use text::write::put_byte;
 use text::write::put_decimal;
@@ -16,9 +15,10 @@ ghost use Rattle.text.specs.Pieces.{decimal};
 ghost use Rattle.text.specs.Buffer.{filledWith};
 ghost use Rattle.text.specs.Internal.{placed, putAll};
 ghost use Rattle.sheet.specs.Fields.{fieldText};
-ghost use Rattle.sheet_field.specs.Memory.{fieldsAt};
+ghost use Rattle.sheet_field.specs.Memory.{kind, carried, fieldIn, fieldsAt};
 ghost use Rattle.sheet_text.specs.Answers.{written, Measured, replyFor};
 ghost use Rattle.sheet_text.specs.TextOfFields.{begins, separator, headerText, fieldsText, textOfFields};
+ghost use Rattle.sheet_text.specs.Internal.{frontTable, frontLengths};
 
 // What became of a text: its length, or that the buffer is shorter than it.
 pub enum Written {
@@ -27,7 +27,8 @@ pub enum Written {
 }
 
 // What the text of a field begins with, by the fields' numbers in memory: six bytes each, a shorter one with spaces behind it.
-// From 23 on the number that the field carries stands behind it.
+// From 23 on the number that the field carries stands behind it. The tables are lent by `write`, since a function that names one
+// has all of it stored anew at each call.
 const FRONTS: [u8; 162] = *b"ELSE  START FINISHIF    SEND  NEG   NOT   \
     +     -     *     /     **    <<    >>    &     !     !!    \
     =     #     <     <=    >     >=    W     K     SET\t  GOTO\t ";
@@ -43,20 +44,46 @@ fn put_numbered(buffer: &mut [u8], at: usize, string: &[u8], n: u32) -> usize
     put_decimal(buffer, i, n)
 }
 
-// A field.
-fn put_field(buffer: &mut [u8], at: usize, f: Field) -> usize
-    ensures { λ r. ⌜ placed r (now (buffer .exit)) ≡ putAll (fieldText f) (placed at (now (buffer .entry))) ⌝ }
+// The number of the kind of the field that a number stands for; that of ELSE where it stands for none.
+fn kind_in(w: u64) -> usize
+    ensures { λ r. ⌜ r ≡ kind (fieldIn w) ⌝ }
 {
-    let k = kind_of(f) as usize;
+    let k = w / 4294967296;
+    if k < 27 {
+        return k as usize;
+    }
+    0
+}
+
+// The number that the field carries that a number stands for.
+fn value_in(w: u64) -> u32
+    ensures { λ r. ⌜ r ≡ carried (fieldIn w) ⌝ }
+{
+    let k = w / 4294967296;
+    if k < 23 {
+        return 0;
+    }
+    if k < 27 {
+        return (w % 4294967296) as u32;
+    }
+    0
+}
+
+// The field that a number stands for.
+fn put_field(buffer: &mut [u8], at: usize, w: u64, fronts: &[u8], lengths: &[u8]) -> usize
+    requires { ⌜ (now fronts ≡ frontTable) × (now lengths ≡ frontLengths) ⌝ }
+    ensures { λ r. ⌜ placed r (now (buffer .exit)) ≡ putAll (fieldText (fieldIn w)) (placed at (now (buffer .entry))) ⌝ }
+{
+    let k = kind_in(w);
     let i = put_fixed(
         buffer,
         at,
-        part(&FRONTS, 6 * k, (FRONT_LENGTHS[k] % 16) as usize),
+        part(fronts, 6 * k, (byte_at(lengths, k) % 16) as usize),
     );
     if k < 23 {
         return i;
     }
-    put_decimal(buffer, i, value_of(f))
+    put_decimal(buffer, i, value_in(w))
 }
 
 // Whether a field begins a line.
@@ -100,36 +127,39 @@ fn put_header(buffer: &mut [u8], at: usize, v: u32, instructions: u32) -> usize
 }
 
 // The fields, each behind its separator, and the last newline.
-fn put_fields(buffer: &mut [u8], at: usize, fields: &[u64]) -> usize
+fn put_fields(buffer: &mut [u8], at: usize, fields: &[u64], fronts: &[u8], lengths: &[u8]) -> usize
+    requires { ⌜ (now fronts ≡ frontTable) × (now lengths ≡ frontLengths) ⌝ }
     ensures { λ r. ⌜ placed r (now (buffer .exit)) ≡ putAll (fieldsText (fieldsAt 0 (now (fields .entry)))) (placed at (now (buffer .entry))) ⌝ }
 {
     let mut j = at;
     let mut i: usize = 0;
     while i < fields.len() {
-        let f = field_in(fields[i]);
-        j = put_byte(buffer, j, separator_of(f));
-        j = put_field(buffer, j, f);
+        let w = fields[i];
+        j = put_byte(buffer, j, separator_of(field_in(w)));
+        j = put_field(buffer, j, w, fronts, lengths);
         i += 1;
     }
     put_byte(buffer, j, 10)
 }
 
-// The length of a field's text, with a bound by which a separator can be added.
-fn field_length(f: Field) -> usize
-    ensures exact { λ r. ⌜ r ≡ length (fieldText f) ⌝ }
+// The length of the text of the field that a number stands for, with a bound by which a separator can be added.
+fn field_length(w: u64, lengths: &[u8]) -> usize
+    requires { ⌜ now lengths ≡ frontLengths ⌝ }
+    ensures exact { λ r. ⌜ r ≡ length (fieldText (fieldIn w)) ⌝ }
     ensures few { λ r. ⌜ r ≤ 16 ⌝ }
 {
-    let k = kind_of(f) as usize;
-    let front = (FRONT_LENGTHS[k] % 16) as usize;
+    let k = kind_in(w);
+    let front = (byte_at(lengths, k) % 16) as usize;
     if k < 23 {
         return front;
     }
-    front + decimal_length(value_of(f))
+    front + decimal_length(value_in(w))
 }
 
 // The length of the text that `write` writes, or that there is no room for it. What is left of the room is counted, so that no
 // sum of lengths can overflow.
-fn text_length(fields: &[u64], v: u32, instructions: u32, room: usize) -> Written
+fn text_length(fields: &[u64], v: u32, instructions: u32, room: usize, lengths: &[u8]) -> Written
+    requires { ⌜ now lengths ≡ frontLengths ⌝ }
     ensures { λ r. ⌜ Measured room (length (textOfFields v instructions (fieldsAt 0 (now (fields .entry))))) r ⌝ }
 {
     let header = decimal_length(v) + decimal_length(instructions) + 8;
@@ -139,7 +169,7 @@ fn text_length(fields: &[u64], v: u32, instructions: u32, room: usize) -> Writte
     let mut left = room - header;
     let mut i: usize = 0;
     while i < fields.len() {
-        let more = field_length(field_in(fields[i])) + 1;
+        let more = field_length(fields[i], lengths) + 1;
         if left < more {
             return Written::Short;
         }
@@ -156,10 +186,10 @@ pub fn write(fields: &[u64], v: u32, instructions: u32, buffer: &mut [u8]) -> Wr
     ensures filled { λ _. ⌜ now (buffer .exit) ≡ filledWith (textOfFields v instructions (fieldsAt 0 (now (fields .entry)))) (now (buffer .entry)) ⌝ }
 {
     let room = buffer.len();
-    let Written::Whole(total) = text_length(fields, v, instructions, room) else {
+    let Written::Whole(total) = text_length(fields, v, instructions, room, &FRONT_LENGTHS) else {
         return Written::Short;
     };
     let at = put_header(buffer, 0, v, instructions);
-    put_fields(buffer, at, fields);
+    put_fields(buffer, at, fields, &FRONTS, &FRONT_LENGTHS);
     Written::Whole(total)
 }

@@ -12,7 +12,7 @@ ghost use mathlib.Core.Path.{_≡_};
 ghost use mathlib.Core.List.{map};
 ghost use lib.ListN.{length, getD, set, take};
 ghost use Rattle.order.specs.Limits.{mostVariables, mostOrders};
-ghost use Rattle.order.specs.Memory.{ordersIn};
+ghost use Rattle.order.specs.Memory.{orderIn, ordersIn};
 ghost use Rattle.sheet.specs.Temporaries.{storedTo, largestStored};
 ghost use Rattle.sheet.specs.Beginnings.{isLast, ofInstruction};
 ghost use Rattle.translate.specs.Internal.{targetOf, ledWord, noted, notedBy, table, Finishes};
@@ -123,21 +123,14 @@ fn first_of(firsts: &[u32], n: usize, last: u32, s: u32) -> u32
     last
 }
 
-fn target_of(o: Order) -> Target
-    ensures { λ r. ⌜ r ≡ targetOf o ⌝ }
+// That of the order that a number stands for; 4 is the number of a jump.
+fn target_of(x: u64) -> Target
+    ensures { λ r. ⌜ r ≡ targetOf (orderIn x) ⌝ }
 {
-    match o {
-        Order::Word(_, _) => Target::Missing,
-        Order::Number(_, _) => Target::Missing,
-        Order::Store(_) => Target::Missing,
-        Order::Neg => Target::Missing,
-        Order::Not => Target::Missing,
-        Order::Jump(s) => Target::To(s),
-        Order::Skip(_) => Target::Missing,
-        Order::Branch(_, _) => Target::Missing,
-        Order::Send => Target::Missing,
-        Order::Stop => Target::Missing,
+    if x / 4294967296 == 4 {
+        return Target::To((x % 4294967296) as u32);
     }
+    Target::Missing
 }
 
 // Gives order i, where it is a jump, the address of its instruction.
@@ -146,7 +139,7 @@ fn lead(orders: &mut [u64], i: usize, firsts: &[u32], n: usize, last: u32)
     ensures { λ _. ⌜ now (orders .exit)
         ≡ set (now (orders .entry)) i (ledWord (take n (now (firsts .entry))) last (getD (now (orders .entry)) i 0)) ⌝ }
 {
-    let Target::To(s) = target_of(order_in(orders[i])) else {
+    let Target::To(s) = target_of(orders[i]) else {
         return;
     };
     orders[i] = order_word(Order::Jump(first_of(firsts, n, last, s)));
@@ -163,28 +156,19 @@ fn lead_all(orders: &mut [u64], firsts: &[u32], n: usize, last: u32)
     }
 }
 
-// The temporary that an order stores to, from 1; 0 where there is none.
-fn stored_to(o: Order, v: u32) -> u32
+// The temporary that the order that a number stands for stores to, from 1; 0 where there is none. 11 is the number of STR.
+fn stored_to(x: u64, v: u32) -> u32
     requires { ⌜ v ≤ mostVariables ⌝ }
-    ensures { λ r. ⌜ r ≡ storedTo v o ⌝ }
+    ensures { λ r. ⌜ r ≡ storedTo v (orderIn x) ⌝ }
 {
-    match o {
-        Order::Word(_, _) => 0,
-        Order::Number(_, _) => 0,
-        Order::Store(w) => {
-            if w < v + 2 {
-                return 0;
-            }
-            w - v - 1
-        }
-        Order::Neg => 0,
-        Order::Not => 0,
-        Order::Jump(_) => 0,
-        Order::Skip(_) => 0,
-        Order::Branch(_, _) => 0,
-        Order::Send => 0,
-        Order::Stop => 0,
+    if x / 4294967296 != 11 {
+        return 0;
     }
+    let w = (x % 4294967296) as u32;
+    if w < v + 2 {
+        return 0;
+    }
+    w - v - 1
 }
 
 // T: the largest of them.
@@ -195,7 +179,7 @@ fn largest(orders: &[u64], v: u32) -> u32
     let mut t: u32 = 0;
     let mut i = 0;
     while i < orders.len() {
-        t = larger(t, stored_to(order_in(orders[i]), v));
+        t = larger(t, stored_to(orders[i], v));
         i += 1;
     }
     t

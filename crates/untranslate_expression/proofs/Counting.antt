@@ -3,18 +3,45 @@ use Prim.Native.Nat.{ℕ, _+_, _≤_, _<_}
 use mathlib.Core.Path.{_≡_, refl, sym, ap, _∙_}
 use mathlib.Core.List.{List, [], _∷_, _++_, append-assoc}
 use native.Mathlib.Omega.{arith}
-use lib.ListN.{length}
+use mathlib.Core.Bool.{true}
+use lib.ListN.{length, getD}
 use Rattle.order.specs.declared.Order.{Order}
+use Rattle.order.specs.declared.Order.the-variants.{Word, Number, Store, Neg, Not, Jump, Skip, Branch, Send, Stop}
+use Rattle.order.specs.Memory.{orderIn}
 use Rattle.sheet.specs.declared.Field.{Field}
+use Rattle.sheet.specs.declared.Field.the-variants.{Word as WordField, Constant}
 use Rattle.sheet.specs.Orders.{temporary}
+use Rattle.untranslate_expression.specs.declared.Use.{Use}
+use Rattle.untranslate_expression.specs.declared.Use.the-variants.{Loads, Joins, Compares}
 use Rattle.untranslate_expression.specs.declared.Link.{Link}
 use Rattle.untranslate_expression.specs.declared.Link.the-variants.{Unary, Plain, Kept, End}
-use Rattle.untranslate_expression.specs.Internal.{ordersAt, behind, pastTaking, linkOf, pastLink, Linkage, linkCode, linksCode, LinksGood}
+use Rattle.untranslate_expression.specs.Internal.{ordersAt, firstOrder, behind, useOf, joinsOne, isSingle, joinedBy, linkBy, pastLoad, linkOf, pastLink, Linkage, linkCode, linksCode, LinksGood}
 use Rattle.untranslate_expression.specs.Internal.{Past, PastWord, PastLink, Left, Counting, Counts}
-use Rattle.untranslate_expression.proofs.Places.{orders-behind, none-outside}
+use Rattle.untranslate_expression.proofs.Places.{orders-behind, first-inside, none-outside}
 use Rattle.untranslate_expression.proofs.Links.{seen, link-seen, link-past, link-told}
 
 -- ---- the place behind a link
+
+-- an order that is a link by itself
+module _ (first t : ℕ) where
+  joined-one : (x : Field) (u : Use) → joinsOne u ≡ true
+      → (joinedBy x u ≡ End → ⊥) × ((l : List Order) → pastLink t (joinedBy x u) l ≡ behind l)
+  joined-one x Loads h = absurd (let z : _≡_ {A = ℕ} 0 1 = cc in omega arith)
+  joined-one x (Joins o) h = ((λ e. let z : _≡_ {A = ℕ} 0 1 = cc in omega arith), (λ l. refl))
+  joined-one x Compares h = ((λ e. let z : _≡_ {A = ℕ} 0 1 = cc in omega arith), (λ l. refl))
+
+  single-one : (o q : Order) → isSingle o ≡ true
+      → (linkBy first t o q ≡ End → ⊥) × ((l : List Order) → pastLink t (linkBy first t o q) l ≡ behind l)
+  single-one (Word f w) q h = joined-one (WordField w) (useOf f) h
+  single-one (Number f n) q h = joined-one (Constant n) (useOf f) h
+  single-one (Store w) q h = absurd (let z : _≡_ {A = ℕ} 0 1 = cc in omega arith)
+  single-one Neg q h = ((λ e. let z : _≡_ {A = ℕ} 0 1 = cc in omega arith), (λ l. refl))
+  single-one Not q h = ((λ e. let z : _≡_ {A = ℕ} 0 1 = cc in omega arith), (λ l. refl))
+  single-one (Jump a) q h = absurd (let z : _≡_ {A = ℕ} 0 1 = cc in omega arith)
+  single-one (Skip a) q h = absurd (let z : _≡_ {A = ℕ} 0 1 = cc in omega arith)
+  single-one (Branch r a) q h = absurd (let z : _≡_ {A = ℕ} 0 1 = cc in omega arith)
+  single-one Send q h = absurd (let z : _≡_ {A = ℕ} 0 1 = cc in omega arith)
+  single-one Stop q h = absurd (let z : _≡_ {A = ℕ} 0 1 = cc in omega arith)
 
 module _ (os : List ℕ) (at first t : ℕ) where
   abbrev here : Link
@@ -40,6 +67,11 @@ module _ (os : List ℕ) (at first t : ℕ) where
     rest = orders-behind at os ∙ sym (one (ordersAt at os)) ∙ ap (λ k. pastLink t k (ordersAt at os)) known;
   }
 
+  pub link-single : at < length os → isSingle (orderIn (getD os at 0)) ≡ true → PastLink os at first t (at + 1)
+  link-single h single =
+      let one = single-one first t (firstOrder (ordersAt at os)) (firstOrder (behind (ordersAt at os))) (ap isSingle (first-inside at os h) ∙ single) in
+      link-short h here refl (one .0) (one .1)
+
   pub link-unary : at < length os → (f : Field) → Unary f ≡ here → PastLink os at first t (at + 1)
   link-unary h f known = link-short h (Unary f) known (λ e. let z : _≡_ {A = ℕ} 0 1 = cc in omega arith) (λ l. refl)
 
@@ -53,7 +85,7 @@ module _ (os : List ℕ) (at first t : ℕ) where
     inside = λ g. past .inside (word .inside (omega arith));
     rest =
         past .rest
-        ∙ ap behind (word .rest ∙ ap (λ l. pastTaking t l) (orders-behind at os))
+        ∙ ap behind (word .rest ∙ ap (λ l. pastLoad t l) (orders-behind at os))
         ∙ ap (λ k. pastLink t k (ordersAt at os)) known;
   }
 

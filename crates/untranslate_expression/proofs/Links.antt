@@ -1,14 +1,14 @@
 -- An expression along the left: its leaf and its links, their orders and their fields, and what the orders show of a link.
 use Prim.Native.Nat.{ℕ, suc, _+_, _<_, _≤_}
 use mathlib.Core.Path.{_≡_, refl, sym, ap, subst, _∙_}
-use mathlib.Core.Bool.{true}
+use mathlib.Core.Bool.{true, false}
 use mathlib.Core.List.{List, [], _∷_, _++_, append-assoc, append-nil}
 use native.Mathlib.Omega.{arith}
 use borrow.Author.Tests.{lt-ltb, le-ltb, eq-eqb, ne-eqb}
 use lib.ListN.{length, length-append}
 use Rattle.base.specs.Choice.{pick}
 use Rattle.order.specs.declared.Operation.{Operation}
-use Rattle.order.specs.declared.Operation.the-variants.{Load, Cmp}
+use Rattle.order.specs.declared.Operation.the-variants.{Load, Add, Sub, Mlt, Div, Exp, Shl, Shr, And, Or, Xor, Cmp}
 use Rattle.order.specs.declared.Order.{Order}
 use Rattle.order.specs.declared.Order.the-variants.{Word, Number, Store, Neg, Not}
 use Rattle.sheet.specs.declared.Operator.{Operator}
@@ -18,11 +18,12 @@ use Rattle.sheet.specs.declared.Field.the-variants.{Else, Neg as NegField, Not 
 use Rattle.sheet.specs.Sheet.{Expression, word, constant, negated, inverted, binary, operand, Operand, inWord, itself, workedOut}
 use Rattle.sheet.specs.Fields.{expressionFields}
 use Rattle.sheet.specs.Orders.{operation, temporary, joined, code, comparisonCode}
+use Rattle.sheet.specs.Guess.{byOperation}
 use Rattle.sheet.specs.Formed.{Expressed}
 use Rattle.untranslate_expression.specs.declared.Use.the-variants.{Joins}
 use Rattle.untranslate_expression.specs.declared.Link.{Link}
 use Rattle.untranslate_expression.specs.declared.Link.the-variants.{Unary, Plain, Kept, End}
-use Rattle.untranslate_expression.specs.Internal.{firstOrder, behind, useOf, loadsLeaf, pastTaking, joinedBy, operatorBy, linkOf, pastLink}
+use Rattle.untranslate_expression.specs.Internal.{firstOrder, behind, useOf, loadsLeaf, pastLoad, joinedBy, operatorBy, linkOf, pastLink}
 use Rattle.untranslate_expression.specs.Internal.{Linkage, negating, inverting, joining, comparing, extend, extendAll, linkCode, linksCode, linkLength, linksLength}
 use Rattle.untranslate_expression.specs.Internal.{LinkGood, LinksGood, Chain}
 
@@ -123,21 +124,36 @@ starts v d (binary o a b) h m =
 abbrev pub closing : Operation → ℕ → ℕ → List Order
 closing f v d = Store (temporary v (suc d)) ∷ Word Load (temporary v d) ∷ Word f (temporary v (suc d)) ∷ []
 
+-- no operation on another word is LOAD of it
+never-loads : (f : Operation) → byOperation f false (λ o. false) false ≡ false
+never-loads Load = refl
+never-loads Add = refl
+never-loads Sub = refl
+never-loads Mlt = refl
+never-loads Div = refl
+never-loads Exp = refl
+never-loads Shl = refl
+never-loads Shr = refl
+never-loads And = refl
+never-loads Or = refl
+never-loads Xor = refl
+never-loads Cmp = refl
+
 module _ (v t : ℕ) (used : v + 2 ≤ t) where
   abbrev Passed : ℕ → Expression → Type 0
-  Passed d e = t < temporary v d → (m : List Order) → pastTaking t (code v d e ++ m) ≡ pastTaking t m
+  Passed d e = t < temporary v d → (m : List Order) → pastLoad t (code v d e ++ m) ≡ pastLoad t m
 
   kept-passed :
       (f : Operation) (d : ℕ) (r : Expression)
       → Passed (suc d) r
       → t < temporary v d
       → (m : List Order)
-      → pastTaking t (((Store (temporary v d) ∷ code v (suc d) r) ++ closing f v d) ++ m) ≡ pastTaking t m
-  unfolding pastTaking pick
+      → pastLoad t (((Store (temporary v d) ∷ code v (suc d) r) ++ closing f v d) ++ m) ≡ pastLoad t m
+  unfolding pastLoad pick
   kept-passed f d r p h m =
-      ap (pastTaking t) (append-assoc (code v (suc d) r) (closing f v d) m)
+      ap (pastLoad t) (append-assoc (code v (suc d) r) (closing f v d) m)
       ∙ p (omega arith) (closing f v d ++ m)
-      ∙ rw (ne-eqb (temporary v d) t (omega arith), ne-eqb (temporary v (suc d)) t (omega arith)) refl
+      ∙ rw (ne-eqb (temporary v d) t (omega arith), ne-eqb (temporary v (suc d)) t (omega arith), never-loads f) refl
 
   right-passed :
       (f : Operation) (d : ℕ) (r : Expression)
@@ -145,23 +161,23 @@ module _ (v t : ℕ) (used : v + 2 ≤ t) where
       → Passed (suc d) r
       → t < temporary v d
       → (m : List Order)
-      → pastTaking t (joined f v d (operand r) [] (code v (suc d) r) ++ m) ≡ pastTaking t m
-  unfolding pastTaking pick Expressed
-  right-passed f d (word w) x p h m = rw (ne-eqb w t (omega (arith, x .1))) refl
+      → pastLoad t (joined f v d (operand r) [] (code v (suc d) r) ++ m) ≡ pastLoad t m
+  unfolding pastLoad pick Expressed
+  right-passed f d (word w) x p h m = rw (ne-eqb w t (omega (arith, x .1)), never-loads f) refl
   right-passed f d (constant n) x p h m = refl
   right-passed f d (negated e) x p h m = kept-passed f d (negated e) p h m
   right-passed f d (inverted e) x p h m = kept-passed f d (inverted e) p h m
   right-passed f d (binary o a b) x p h m = kept-passed f d (binary o a b) p h m
 
   code-passed : (d : ℕ) (e : Expression) → Expressed v e → Passed d e
-  unfolding pastTaking pick Expressed code
+  unfolding pastLoad pick Expressed code
   code-passed d (word w) x h m = rw (ne-eqb w t (omega (arith, x .1))) refl
   code-passed d (constant n) x h m = refl
-  code-passed d (negated e) x h m = ap (pastTaking t) (append-assoc (code v d e) (Neg ∷ []) m) ∙ code-passed d e x h (Neg ∷ m)
-  code-passed d (inverted e) x h m = ap (pastTaking t) (append-assoc (code v d e) (Not ∷ []) m) ∙ code-passed d e x h (Not ∷ m)
+  code-passed d (negated e) x h m = ap (pastLoad t) (append-assoc (code v d e) (Neg ∷ []) m) ∙ code-passed d e x h (Neg ∷ m)
+  code-passed d (inverted e) x h m = ap (pastLoad t) (append-assoc (code v d e) (Not ∷ []) m) ∙ code-passed d e x h (Not ∷ m)
   code-passed d (binary o a b) x h m =
       let right = joined (operation o) v d (operand b) [] (code v (suc d) b) in
-      ap (pastTaking t)
+      ap (pastLoad t)
       (ap (λ l. l ++ m) (joined-left (operation o) v d (operand b) (code v d a) (code v (suc d) b)) ∙ append-assoc (code v d a) right m)
       ∙ code-passed d a (x .0) h (right ++ m)
       ∙ right-passed (operation o) d b (x .1) (code-passed (suc d) b (x .1)) h m
@@ -231,11 +247,11 @@ module _ (v d first t : ℕ) (start : first ≡ v + 2) (free : t ≡ temporary v
       → Expressed v r
       → (m : List Order)
       → pastLink t Kept (((Store (temporary v d) ∷ code v (suc d) r) ++ closing f v d) ++ m) ≡ m
-  unfolding pastTaking pick
+  unfolding pastLoad pick
   kept-past f r h m =
-      let found : pastTaking t (closing f v d ++ m) ≡ Word f (temporary v (suc d)) ∷ m = rw (eq-eqb (temporary v d) t (sym free)) refl in
+      let found : pastLoad t (closing f v d ++ m) ≡ Word f (temporary v (suc d)) ∷ m = rw (eq-eqb (temporary v d) t (sym free)) refl in
       ap behind
-      (ap (pastTaking t) (append-assoc (code v (suc d) r) (closing f v d) m)
+      (ap (pastLoad t) (append-assoc (code v (suc d) r) (closing f v d) m)
       ∙ code-passed v t (omega arith) (suc d) r h (omega arith) (closing f v d ++ m)
       ∙ found)
 

@@ -1,23 +1,28 @@
 -- Orders by their places, and fields put one behind the other.
-use Prim.Native.Nat.{ℕ, zero, suc, _+_, _≤_, _<_}
+use Prim.Native.Nat.{ℕ, zero, suc, _+_, _/_, _%_, _≤_, _<_}
 use mathlib.Core.Path.{_≡_, refl, sym, ap, _∙_}
 use mathlib.Core.Bool.{Bool, true, false}
 use mathlib.Core.List.{List, [], _∷_, _++_, map}
 use native.Mathlib.Omega.{arith}
 use native.Mathlib.Nat.{add-assoc}
 use native.Mathlib.Numerals.{add-one}
-use borrow.Author.Tests.{eq-eqb, ne-eqb}
+use borrow.Author.Tests.{le-ltb, eq-eqb, ne-eqb}
+use lib.Dec.{ltb, leb, eqb}
 use lib.ListN.{length, getD, set, length-append, length-map}
 use lib.Seq.{sets, drop-cons, set-comm}
 use Rattle.base.specs.Choice.{pick}
+use Rattle.base.specs.Places.{each}
+use Rattle.base.proofs.Cases.{by-less, by-equal}
 use Rattle.base.proofs.Lists.{sets-append}
+use Rattle.base.proofs.Places.{each-at}
 use Rattle.order.specs.declared.Order.{Order}
 use Rattle.order.specs.declared.Order.the-variants.{Store}
-use Rattle.order.specs.Memory.{orderIn}
+use Rattle.order.specs.Memory.{shapes, orderOf, orderIn}
+use Rattle.order.proofs.Numbers.{no-order}
 use Rattle.sheet.specs.declared.Field.{Field}
 use Rattle.sheet_field.specs.Memory.{fieldWord}
 use Rattle.untranslate_expression.specs.declared.Link.the-variants.{Kept, End}
-use Rattle.untranslate_expression.specs.Internal.{ordersAt, firstOrder, behind, takes, pastTaking, loadsLeaf, linkBy, linkOf}
+use Rattle.untranslate_expression.specs.Internal.{ordersAt, firstOrder, behind, loads, isSingle, pastLoad, loadsLeaf, linkBy, linkOf}
 use Rattle.untranslate_expression.specs.Internal.{Past, PastWord, Writes, Safe}
 
 -- ---- orders
@@ -55,28 +60,86 @@ module _ (os : List ℕ) (at : ℕ) where
     rest = let none = none-outside at os h in none ∙ sym (ap behind none);
   }
 
--- ---- the first order on a word, from place `at` on: none so far up to j
+-- ---- whether an order is LOAD of a word, by its number
 
-module _ (os : List ℕ) (at t j : ℕ) (on : at ≤ j) (same : pastTaking t (ordersAt j os) ≡ pastTaking t (ordersAt at os)) where
-  pub word-found : j < length os → takes t (orderIn (getD os j 0)) ≡ true → PastWord os at t (j + 1)
-  unfolding pastTaking pick
+module _ (t v : ℕ) where
+  abbrev loadsBy : ℕ → Bool
+  loadsBy k = pick (eqb k 12) (eqb v t) false
+
+  all-loads : each (λ k. loads t (orderOf k v)) 0 37 ≡ each loadsBy 0 37
+  unfolding each orderOf shapes pick
+  all-loads = refl
+
+  none-loads : (k : ℕ) → 37 ≤ k → loads t (orderOf k v) ≡ loadsBy k
+  unfolding pick
+  none-loads k h = rw (← no-order k v h, ne-eqb k 12 (λ e. omega (arith, e))) refl
+
+  loads-told : (k : ℕ) → loads t (orderOf k v) ≡ loadsBy k
+  loads-told k = by-less k 37 (λ h. each-at (λ j. loads t (orderOf j v)) loadsBy 37 all-loads k h) (none-loads k)
+
+module _ (t x : ℕ) (small : t < 4294967296) where
+  abbrev kindOf : ℕ
+  kindOf = x / 4294967296
+
+  abbrev wordOf : ℕ
+  wordOf = x % 4294967296
+
+  equal-parts : x ≡ 51539607552 + t → eqb x (51539607552 + t) ≡ loadsBy t wordOf kindOf
+  unfolding pick
+  equal-parts e =
+      rw (eq-eqb x (51539607552 + t) e, eq-eqb kindOf 12 (omega (arith, e)), eq-eqb wordOf t (omega (arith, e))) refl
+
+  other-parts : (x ≡ 51539607552 + t → ⊥) → eqb x (51539607552 + t) ≡ loadsBy t wordOf kindOf
+  unfolding pick
+  other-parts n =
+      by-equal kindOf 12
+      (λ e. rw (ne-eqb x (51539607552 + t) n, eq-eqb kindOf 12 e, ne-eqb wordOf t (λ f. n (omega (arith, e, f)))) refl)
+      (λ e. rw (ne-eqb x (51539607552 + t) n, ne-eqb kindOf 12 e) refl)
+
+  pub load-told : eqb x (51539607552 + t) ≡ loads t (orderIn x)
+  load-told = by-equal x (51539607552 + t) equal-parts other-parts ∙ sym (loads-told t wordOf kindOf)
+
+-- ---- whether an order is a link by itself, by its number
+
+abbrev pub singleBy : ℕ → Bool
+singleBy k = pick (ltb k 4) (leb 2 k) (pick (ltb k 13) false (pick (eqb k 24) false (ltb k 36)))
+
+module _ (v : ℕ) where
+  all-single : each (λ k. isSingle (orderOf k v)) 0 37 ≡ each singleBy 0 37
+  unfolding each orderOf shapes pick
+  all-single = refl
+
+  none-single : (k : ℕ) → 37 ≤ k → isSingle (orderOf k v) ≡ singleBy k
+  unfolding pick
+  none-single k h =
+      rw (← no-order k v h, le-ltb k 4 (omega arith), le-ltb k 13 (omega arith), ne-eqb k 24 (λ e. omega (arith, e)), le-ltb k 36 (omega arith))
+      refl
+
+  pub single-told : (k : ℕ) → isSingle (orderOf k v) ≡ singleBy k
+  single-told k = by-less k 37 (λ h. each-at (λ j. isSingle (orderOf j v)) singleBy 37 all-single k h) (none-single k)
+
+-- ---- the first LOAD of a word, from place `at` on: none so far up to j
+
+module _ (os : List ℕ) (at t j : ℕ) (on : at ≤ j) (same : pastLoad t (ordersAt j os) ≡ pastLoad t (ordersAt at os)) where
+  pub word-found : j < length os → loads t (orderIn (getD os j 0)) ≡ true → PastWord os at t (j + 1)
+  unfolding pastLoad pick
   word-found h yes-it = record {
     on = omega arith;
     inside = λ g. omega arith;
-    rest = sym (ap (pastTaking t) (orders-inside j os h) ∙ ap (λ b. pick b (ordersAt (j + 1) os) (pastTaking t (ordersAt (j + 1) os))) yes-it) ∙ same;
+    rest = sym (ap (pastLoad t) (orders-inside j os h) ∙ ap (λ b. pick b (ordersAt (j + 1) os) (pastLoad t (ordersAt (j + 1) os))) yes-it) ∙ same;
   }
 
-  pub word-later : j < length os → takes t (orderIn (getD os j 0)) ≡ false → pastTaking t (ordersAt (j + 1) os) ≡ pastTaking t (ordersAt at os)
-  unfolding pastTaking pick
+  pub word-later : j < length os → loads t (orderIn (getD os j 0)) ≡ false → pastLoad t (ordersAt (j + 1) os) ≡ pastLoad t (ordersAt at os)
+  unfolding pastLoad pick
   word-later h no-it =
-      sym (ap (pastTaking t) (orders-inside j os h) ∙ ap (λ b. pick b (ordersAt (j + 1) os) (pastTaking t (ordersAt (j + 1) os))) no-it) ∙ same
+      sym (ap (pastLoad t) (orders-inside j os h) ∙ ap (λ b. pick b (ordersAt (j + 1) os) (pastLoad t (ordersAt (j + 1) os))) no-it) ∙ same
 
   pub word-never : length os ≤ j → (at ≤ length os → j ≤ length os) → PastWord os at t j
-  unfolding pastTaking
+  unfolding pastLoad
   word-never h g = record {
     on = on;
     inside = g;
-    rest = let none = none-outside j os h in none ∙ sym (ap (pastTaking t) none) ∙ same;
+    rest = let none = none-outside j os h in none ∙ sym (ap (pastLoad t) none) ∙ same;
   }
 
 -- ---- STR of a temporary

@@ -69,23 +69,23 @@ loadsLeaf first (Branch r a) = false
 loadsLeaf first Send = false
 loadsLeaf first Stop = false
 
--- the order is on word t
-abbrev pub takes : ℕ → Order → Bool
-takes t (Word f w) = eqb w t
-takes t (Number f n) = false
-takes t (Store w) = false
-takes t Neg = false
-takes t Not = false
-takes t (Jump a) = false
-takes t (Skip a) = false
-takes t (Branch r a) = false
-takes t Send = false
-takes t Stop = false
+-- the order is LOAD of word t
+abbrev pub loads : ℕ → Order → Bool
+loads t (Word f w) = byOperation f (eqb w t) (λ o. false) false
+loads t (Number f n) = false
+loads t (Store w) = false
+loads t Neg = false
+loads t Not = false
+loads t (Jump a) = false
+loads t (Skip a) = false
+loads t (Branch r a) = false
+loads t Send = false
+loads t Stop = false
 
--- what is behind the first order on word t
-unfoldable pub pastTaking : ℕ → List Order → List Order
-pastTaking t [] = []
-pastTaking t (o ∷ l) = pick (takes t o) l (pastTaking t l)
+-- what is behind the first LOAD of word t
+unfoldable pub pastLoad : ℕ → List Order → List Order
+pastLoad t [] = []
+pastLoad t (o ∷ l) = pick (loads t o) l (pastLoad t l)
 
 -- ---- links
 
@@ -128,11 +128,29 @@ linkBy first t Stop q = End
 abbrev pub linkOf : ℕ → ℕ → List Order → Link
 linkOf first t l = linkBy first t (firstOrder l) (firstOrder (behind l))
 
+-- an order that is a link by itself, whatever is behind it
+abbrev pub joinsOne : Use → Bool
+joinsOne Loads = false
+joinsOne (Joins o) = true
+joinsOne Compares = true
+
+abbrev pub isSingle : Order → Bool
+isSingle (Word f w) = joinsOne (useOf f)
+isSingle (Number f n) = joinsOne (useOf f)
+isSingle (Store w) = false
+isSingle Neg = true
+isSingle Not = true
+isSingle (Jump a) = false
+isSingle (Skip a) = false
+isSingle (Branch r a) = false
+isSingle Send = false
+isSingle Stop = false
+
 -- what is behind a link that the orders l begin with
 abbrev pub pastLink : ℕ → Link → List Order → List Order
 pastLink t (Unary f) l = behind l
 pastLink t (Plain f x) l = behind l
-pastLink t Kept l = behind (pastTaking t (behind l))
+pastLink t Kept l = behind (pastLoad t (behind l))
 pastLink t End l = l
 
 -- what a link adds to an expression
@@ -202,7 +220,7 @@ pub record Past (os : List ℕ) (at r : ℕ) : Type 0 where
 pub record PastWord (os : List ℕ) (at word r : ℕ) : Type 0 where
   pub on : at ≤ r
   pub inside : at ≤ length os → r ≤ length os
-  pub rest : ordersAt r os ≡ pastTaking word (ordersAt at os)
+  pub rest : ordersAt r os ≡ pastLoad word (ordersAt at os)
 
 pub record PastLink (os : List ℕ) (at first t r : ℕ) : Type 0 where
   pub none : r ≤ at → linkOf first t (ordersAt at os) ≡ End

@@ -11,7 +11,8 @@ use sheet_field::field_word;
 ghost use mathlib.Core.Path.{_≡_};
 ghost use Prim.Native.Nat.{_<_};
 ghost use lib.ListN.{length};
-ghost use Rattle.untranslate_expression.specs.Internal.{ordersAt, firstOrder, useOf, leafOf, loadsLeaf, takes, operatorOf, joinedBy, linkOf};
+ghost use Rattle.order.specs.Memory.{orderIn};
+ghost use Rattle.untranslate_expression.specs.Internal.{ordersAt, firstOrder, useOf, leafOf, loadsLeaf, loads, isSingle, operatorOf, joinedBy, linkOf};
 ghost use Rattle.untranslate_expression.specs.Internal.{Past, PastWord, PastLink, Counts, NextWord, LeafPlace, Put, Leaf, Reading, Linking};
 
 // What an operation does with its operand.
@@ -111,22 +112,11 @@ fn loads_leaf(o: Order, first: u32) -> bool
     }
 }
 
-// Whether an order's operand is a word.
-fn takes_word(o: Order, word: u32) -> bool
-    ensures { λ r. ⌜ r ≡ takes word o ⌝ }
+// Whether the order that a number stands for is LOAD of a word, whose number is 12.
+fn loads_word(x: u64, word: u32) -> bool
+    ensures { λ r. ⌜ r ≡ loads word (orderIn x) ⌝ }
 {
-    match o {
-        Order::Word(_, w) => w == word,
-        Order::Number(_, _) => false,
-        Order::Store(_) => false,
-        Order::Neg => false,
-        Order::Not => false,
-        Order::Jump(_) => false,
-        Order::Skip(_) => false,
-        Order::Branch(_, _) => false,
-        Order::Send => false,
-        Order::Stop => false,
-    }
+    x == 51539607552 + word as u64
 }
 
 // An operation on a plain operand as a link.
@@ -190,13 +180,30 @@ fn operator_of(o: Order) -> Field
     }
 }
 
-// The place behind the first order on a word.
+// Whether the order that a number stands for is a link by itself: NEG, NOT, and an operation on a word or a number that is not LOAD.
+fn is_single(x: u64) -> bool
+    ensures { λ r. ⌜ r ≡ isSingle (orderIn x) ⌝ }
+{
+    let k = x / 4294967296;
+    if k < 4 {
+        return 2 <= k;
+    }
+    if k < 13 {
+        return false;
+    }
+    if k == 24 {
+        return false;
+    }
+    k < 36
+}
+
+// The place behind the first LOAD of a word.
 fn past_word(orders: &[u64], at: usize, word: u32) -> usize
     ensures { λ r. ⌜ PastWord (now (orders .entry)) at word r ⌝ }
 {
     let mut j = at;
     while j < orders.len() {
-        if takes_word(order_in(orders[j]), word) {
+        if loads_word(orders[j], word) {
             return j + 1;
         }
         j += 1;
@@ -204,13 +211,17 @@ fn past_word(orders: &[u64], at: usize, word: u32) -> usize
     j
 }
 
-// The place behind the link at a place, or that place where there is none. A right operand that is worked out never names the
-// temporary that keeps the left one: its orders end with the LOAD of that and the order behind.
+// The place behind the link at a place, or that place where there is none. A right operand that is worked out never loads the
+// temporary that keeps the left one: its orders end with the LOAD of that and the order behind. Most links are single orders, which
+// are told by their numbers.
 fn past_link(orders: &[u64], at: usize, first: u32, word: u32) -> usize
     ensures { λ r. ⌜ PastLink (now (orders .entry)) at first word r ⌝ }
 {
     if orders.len() <= at {
         return at;
+    }
+    if is_single(orders[at]) {
+        return at + 1;
     }
     match link_at(orders, at, first, word) {
         Link::Unary(_) => at + 1,

@@ -8,10 +8,10 @@ use Rattle.object_reader.proofs.read_lines.Statement.{statement}
 use Rattle.object_reader.proofs.read_lines.Tie as tie
 
 abbrev Inv-loop : tie.InvT-loop
-Inv-loop s at words n orders₀ scan₀ orders scan = Filling words n s at orders₀ orders scan
+Inv-loop s at words n orders₀ records scan₀ orders scan = Filling words n s at orders₀ orders scan
 
 abbrev μ-loop : tie.MeasureT-loop
-μ-loop s at words n orders₀ scan₀ orders scan = n - scan .count
+μ-loop s at words n orders₀ records scan₀ orders scan = n - scan .count
 
 loop-holds : tie.Need-loop-holds Inv-loop μ-loop
 loop-holds c = filling-start _ _ _ _ _

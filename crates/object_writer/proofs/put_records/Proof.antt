@@ -11,11 +11,11 @@ use Rattle.object_writer.proofs.put_records.Statement.{statement}
 use Rattle.object_writer.proofs.put_records.Tie as tie
 
 abbrev Inv-loop : tie.InvT-loop
-Inv-loop buffer₀ at orders j₀ i₀ buffer j i =
+Inv-loop buffer₀ at orders records j₀ i₀ buffer j i =
     (putAll (left-text orders i) (placed j buffer) ≡ putAll (recordsText (ordersIn orders)) (placed at buffer₀)) × (length buffer ≡ length buffer₀)
 
 abbrev μ-loop : tie.MeasureT-loop
-μ-loop buffer₀ at orders j₀ i₀ buffer j i = length orders - i
+μ-loop buffer₀ at orders records j₀ i₀ buffer j i = length orders - i
 
 loop-again : tie.Need-loop-again Inv-loop μ-loop
 loop-again c =

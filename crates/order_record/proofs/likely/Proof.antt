@@ -1,5 +1,4 @@
 use borrow.Author.Needs.{needs}
-use Rattle.base.specs.Text.{bytes}
 use Rattle.order_record.proofs.Writing.{heading-long}
 use Rattle.order_record.proofs.Reading.{likely-number, likely-other}
 use Rattle.order_record.proofs.likely.Statement.{statement}
@@ -9,20 +8,18 @@ sub-byte-at : tie.Need-sub-byte-at
 sub-byte-at c = rw (c .heading-length .ensures .0) (heading-long _)
 
 returns : tie.Need-returns
-unfolding bytes
 returns c =
     let n = c .before .before in
-    let l = n .before in
-    likely-number _ _ _ _ _ _ (l .before .before .byte-at .ensures) (l .before .byte-at2 .ensures) (l .byte-at3 .ensures)
-    (n .heading-length .ensures .0) (c .before .byte-at4 .ensures) (c .if1 .taken)
+    let l = n .before .before in
+    likely-number _ _ (l .before .before .before .before .before .pre) _ _ _ _ _ _ (l .before .before .byte-at .ensures) (l .before .byte-at2 .ensures) (l .byte-at3 .ensures)
+    (n .before .byte-at4 .ensures) (n .heading-length .ensures .0) (c .before .byte-at5 .ensures) (c .if1 .taken)
 
 returns-2 : tie.Need-returns-2
-unfolding bytes
 returns-2 c =
     let n = c .before .before in
-    let l = n .before in
-    likely-other _ _ _ _ _ _ (l .before .before .byte-at .ensures) (l .before .byte-at2 .ensures) (l .byte-at3 .ensures)
-    (n .heading-length .ensures .0) (c .before .byte-at4 .ensures) (c .if1 .left)
+    let l = n .before .before in
+    likely-other _ _ (l .before .before .before .before .before .pre) _ _ _ _ _ _ (l .before .before .byte-at .ensures) (l .before .byte-at2 .ensures) (l .byte-at3 .ensures)
+    (n .before .byte-at4 .ensures) (n .heading-length .ensures .0) (c .before .byte-at5 .ensures) (c .if1 .left)
 
 pub likely-spec : {M : Type 1} → statement M
 likely-spec =
@@ -39,6 +36,7 @@ likely-spec =
     (λ c. search needs)
     (λ c. search needs)
     (λ c. search needs)
+    (λ c κs. search needs)
     (λ c κs. search needs)
     sub-byte-at
     (λ c κs. search needs)

@@ -10,7 +10,7 @@ returns : tie.Need-returns
 returns c =
     let d = c .before .before .before .before .before .before in
     let h = d .before .before .before .before .before in
-    let o = h .before .before .before .before .args .o in
+    let o = h .before .before .before .before .before .args .o in
     c .before .before .put-byte .ensures
     ∙ ap (putByte 10)
     (d .put-decimal .ensures

@@ -8,7 +8,7 @@ use Rattle.order_record.proofs.record_length.Tie as tie
 returns : tie.Need-returns
 returns c =
     let h = c .before .before .heading-length .ensures in (
-      rw (h .0, c .decimal-length .ensures .0, c .before .operand-of .ensures, c .before .before .before .number-of .ensures) (sym (record-length (c .before .before .before .before .args .o))),
+      rw (h .0, c .decimal-length .ensures .0, c .before .operand-of .ensures, c .before .before .before .number-of .ensures) (sym (record-length (c .before .before .before .before .before .args .o))),
       omega (arith, h .1, c .decimal-length .ensures .1),
     )
 

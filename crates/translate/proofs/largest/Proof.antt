@@ -10,7 +10,6 @@ use Rattle.translate.proofs.largest.Tie as tie
 use Rattle.translate.proofs.largest.Reads as reads
 use Rattle.translate.proofs.largest.Lts as lts
 use Rattle.base.proofs.larger.Reads as larger-reads
-use Rattle.order_number.proofs.order_in.Reads as order-in-reads
 use Rattle.translate.proofs.stored_to.Reads as stored-to-reads
 use borrow.Author.Needs.{needs}
 
@@ -24,7 +23,7 @@ loop-holds : tie.Need-loop-holds Inv-loop μ-loop
 loop-holds c = (omega arith, omega arith)
 
 loop-again : tie.Need-loop-again Inv-loop μ-loop
-loop-again c = (rw (c .larger .ensures, c .before .stored-to .ensures, c .before .before .order-in .ensures) (sym (largest-more _ _ _ _ (c .before .before .before .before .loop-test .taken))) ∙ c .before .before .before .before .before .loop .inv .0, omega arith)
+loop-again c = (rw (c .larger .ensures, c .before .stored-to .ensures) (sym (largest-more _ _ _ _ (c .before .before .before .loop-test .taken))) ∙ c .before .before .before .before .loop .inv .0, omega arith)
 
 returns : tie.Need-returns Inv-loop μ-loop
 returns c = sym (largest-ends _ _ _ _ (c .loop-test .left)) ∙ c .before .loop .inv .0
@@ -38,7 +37,6 @@ largest-spec =
     loop-holds
     (λ c. search needs)
     (λ c. search needs)
-    (λ c κs. search needs)
     (λ c κs. search needs)
     (λ c κs. search needs)
     (λ c. search needs)

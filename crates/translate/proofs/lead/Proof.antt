@@ -1,3 +1,4 @@
+use mathlib.Core.Path.{refl}
 use lib.ListN.{take}
 use Rattle.translate.proofs.Tables.{lead-jump, lead-other}
 use borrow.Author.Needs.{needs}
@@ -5,17 +6,16 @@ use Rattle.translate.proofs.lead.Statement.{statement}
 use Rattle.translate.proofs.lead.Tie as tie
 use Rattle.translate.proofs.lead.Reads as reads
 use Rattle.translate.proofs.lead.Lts as lts
-use Rattle.order_number.proofs.order_in.Reads as order-in-reads
 use Rattle.order_number.proofs.order_word.Reads as order-word-reads
 use Rattle.translate.proofs.first_of.Reads as first-of-reads
 use Rattle.translate.proofs.target_of.Reads as target-of-reads
 use borrow.Author.Needs.{needs}
 
 returns : tie.Need-returns
-returns c = lead-other (c .before .before .before .before .before .before .before .args .orders .now) (take (c .before .before .before .before .before .before .before .args .n) (c .before .before .before .before .before .before .before .args .firsts .now)) (c .before .before .before .before .before .before .before .args .i) (c .before .before .before .before .before .before .before .args .last) (c .before .before .before .before .before .before .before .pre) _ (c .before .before .before .order-in .ensures) _ (c .before .before .target-of .ensures) (c .enum-told .given .1)
+returns c = lead-other (c .before .before .before .before .before .before .args .orders .now) (take (c .before .before .before .before .before .before .args .n) (c .before .before .before .before .before .before .args .firsts .now)) (c .before .before .before .before .before .before .args .i) (c .before .before .before .before .before .before .args .last) (c .before .before .before .before .before .before .pre) _ refl _ (c .before .before .target-of .ensures) (c .enum-told .given .1)
 
 returns-2 : tie.Need-returns-2
-returns-2 c = lead-jump (c .before .before .before .before .before .before .before .before .before .before .args .orders .now) (take (c .before .before .before .before .before .before .before .before .before .before .args .n) (c .before .before .before .before .before .before .before .before .before .before .args .firsts .now)) (c .before .before .before .before .before .before .before .before .before .before .args .i) (c .before .before .before .before .before .before .before .before .before .before .args .last) (c .before .before .before .before .before .before .before .before .before .before .pre) _ (c .before .before .before .before .before .before .order-in .ensures) _ (c .before .before .before .before .before .target-of .ensures) _ (c .before .before .before .s .given .1) _ _ (c .before .first-of .ensures) (c .order-word .ensures)
+returns-2 c = lead-jump (c .before .before .before .before .before .before .before .before .before .args .orders .now) (take (c .before .before .before .before .before .before .before .before .before .args .n) (c .before .before .before .before .before .before .before .before .before .args .firsts .now)) (c .before .before .before .before .before .before .before .before .before .args .i) (c .before .before .before .before .before .before .before .before .before .args .last) (c .before .before .before .before .before .before .before .before .before .pre) _ refl _ (c .before .before .before .before .before .target-of .ensures) _ (c .before .before .before .s .given .1) _ _ (c .before .first-of .ensures) (c .order-word .ensures)
 
 pub lead-spec : {M : Type 1} → statement M
 lead-spec =
@@ -23,7 +23,6 @@ lead-spec =
     (tie.spec
     (λ c. search needs)
     (λ c. search needs)
-    (λ c κs. search needs)
     (λ c κs. search needs)
     (λ c. search needs)
     (λ c. search needs)
