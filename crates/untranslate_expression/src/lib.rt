@@ -112,11 +112,14 @@ fn loads_leaf(o: Order, first: u32) -> bool
     }
 }
 
-// Whether the order that a number stands for is LOAD of a word, whose number is 12.
+// LOAD of word 0 as one number: its own number, 12, times 2^32.
+const LOAD_WORD_0: u64 = 51539607552;
+
+// Whether the order that a number stands for is LOAD of a word.
 fn loads_word(x: u64, word: u32) -> bool
     ensures { λ r. ⌜ r ≡ loads word (orderIn x) ⌝ }
 {
-    x == 51539607552 + word as u64
+    x == LOAD_WORD_0 + word as u64
 }
 
 // An operation on a plain operand as a link.
