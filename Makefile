@@ -13,10 +13,14 @@ test:
 edits:
 	@tools/edits $(CRATE)
 
-# The archive, proved, and the command over it.
-build:
+# The archive, proved. rt itself sees what has changed, but takes some 20 s to see that nothing has.
+$(ARCHIVE): crates.txt $(shell find crates -name '*.rt' -o -name '*.antt')
 	@mkdir -p target
 	@rt staticlib skimp >target/build.log 2>&1 || { cat target/build.log; exit 1; }
+	@touch $@
+
+# The archive, and the command over it.
+build: $(ARCHIVE)
 	@cd rust && cargo build --release --offline --locked --quiet --package skimp-tool
 
 # What the product does: a program from source to object, sheet and run; objects compared; refusals.
@@ -32,13 +36,10 @@ install: build
 	@install -D -m 644 $(ARCHIVE) $(DESTDIR)$(PREFIX)/lib/libskimp.a
 
 # The time of the proved calls against that of plain Rust; then what the archive takes of the box.
-bench:
-	@mkdir -p target
-	@rt staticlib skimp >target/bench.log 2>&1 || { cat target/bench.log; exit 1; }
+bench: $(ARCHIVE)
 	@cd rust && cargo run --release --offline --locked --quiet --package skimp --example bench
 	@tools/archive $(ARCHIVE)
 
-# The archive comes from `make build`.
 target/demo/supervisor: examples/supervisor.c include/skimp.h $(ARCHIVE)
 	@mkdir -p $(@D)
 	@$(CC) $(CFLAGS) -Iinclude examples/supervisor.c $(ARCHIVE) -o $@

@@ -2,8 +2,8 @@
 // number of cells held, and `last` the last of them, or 0. Comments in quotes are document 01's words.
 use source::MOST_CELLS;
 use source::Mode;
-use source::letters::is_capital;
-use source::letters::is_small;
+use token_number::letters::is_capital;
+use token_number::letters::is_small;
 ghost use mathlib.Core.Path.{_≡_};
 ghost use lib.Dec.{ltb};
 ghost use Rattle.source.specs.Limits.{mostCells};

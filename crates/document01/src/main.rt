@@ -2,7 +2,9 @@
 // three calls: a source is compiled, its object read back and run. Then a source for each other refusal of a source, groups,
 // objects that differ from a translation by little, and each refusal of an object. The file stdout beside src/ has what documents
 // 01 and 02 say of each.
+use base::part;
 use libc::STDOUT_FILENO;
+ghost use Prim.Native.Nat.{_≤_};
 
 fn main() {
     worked();
@@ -68,19 +70,12 @@ fn show_bytes(what: &[u8], bytes: &[u8]) {
     end_line();
 }
 
-// The first n bytes.
-fn show(text: &[u8], n: usize) {
-    if n <= text.len() {
-        say(&text[..n]);
-    }
-}
-
 // The sheet of an object, or the refusal.
 fn read_back(object: &[u8]) {
     let mut text = [0u8; 32768];
     let reply = skimp::skimp_read_back(object, &mut text);
     if reply / 4294967296 == 0 {
-        show(&text, (reply % 4294967296) as usize);
+        say(part(&text, 0, (reply % 4294967296) as usize));
     } else {
         say(b"gives ");
         say_reply(reply);
@@ -102,14 +97,7 @@ fn worked() {
         b"%BEGIN\n%INTEGER A, B\nA = 3 ; B = A - (2 - 5) / 2\n%IF B > 4 %THEN SEND(B) %ELSE ->1\n1: SEND(A)\n%ENDOFPROGRAM\n",
         &mut text,
     );
-    worked_front(&text, (reply % 4294967296) as usize);
-}
-
-// The object is the first n bytes.
-fn worked_front(text: &[u8], n: usize) {
-    if n <= text.len() {
-        worked_object(&text[..n]);
-    }
+    worked_object(part(&text, 0, (reply % 4294967296) as usize));
 }
 
 fn worked_object(object: &[u8]) {
@@ -154,17 +142,10 @@ fn reading_from(title: &[u8], source: &[u8], state: &mut [u8]) {
     say(title);
     let reply = skimp::skimp_compile(source, &mut text);
     if reply / 4294967296 == 0 {
-        front_value(&text, (reply % 4294967296) as usize, state);
+        value(part(&text, 0, (reply % 4294967296) as usize), state);
     } else {
         say(b" gives ");
         say_reply(reply);
-    }
-}
-
-// The object is the first n bytes.
-fn front_value(text: &[u8], n: usize, state: &mut [u8]) {
-    if n <= text.len() {
-        value(&text[..n], state);
     }
 }
 
@@ -183,34 +164,98 @@ fn value(object: &[u8], state: &mut [u8]) {
     read_back(object);
 }
 
+// The place of the first mark from a place on; where there is none, that behind the last byte.
+fn until(text: &[u8], at: usize, mark: u8) -> usize
+    ensures { λ r. ⌜ at ≤ r ⌝ }
+{
+    let mut i = at;
+    while i < text.len() {
+        if text[i] == mark {
+            return i;
+        }
+        i += 1;
+    }
+    i
+}
+
+// A title, a tab, and the source of a reading.
+fn reading_in(case: &[u8]) {
+    let tab = until(case, 0, 9);
+    if tab < case.len() {
+        reading(part(case, 0, tab), part(case, tab + 1, case.len()));
+    }
+}
+
+// A title, a colon, and an object, whose sheet is told.
+fn sheet_in(case: &[u8]) {
+    let colon = until(case, 0, 58);
+    if colon < case.len() {
+        say(part(case, 0, colon));
+        say(b": ");
+        read_back(part(case, colon + 1, case.len()));
+    }
+}
+
+fn one(case: &[u8], objects: bool) {
+    if objects {
+        sheet_in(case);
+    } else {
+        reading_in(case);
+    }
+}
+
+// The cases of a table, parted by a mark. One string for many of them is proved sooner than a string for each.
+fn all(table: &[u8], mark: u8, objects: bool) {
+    let mut at = 0;
+    while at < table.len() {
+        let end = until(table, at, mark);
+        one(part(table, at, end - at), objects);
+        if table.len() <= end {
+            return;
+        }
+        at = end + 1;
+    }
+}
+
+// Readings, a line each.
+fn readings(table: &[u8]) {
+    all(table, 10, false);
+}
+
+// Objects, parted by points.
+fn sheets(table: &[u8]) {
+    all(table, 46, true);
+}
+
 // The starred ones.
 fn starred() {
-    reading(b"-7/2", b"%BEGIN;SEND(-7/2);%ENDOFPROGRAM");
-    reading(b"2147483647+1", b"%BEGIN;SEND(2147483647+1);%ENDOFPROGRAM");
-    reading(
-        b"-(\\2147483647)",
-        b"%BEGIN;SEND(-(\\2147483647));%ENDOFPROGRAM",
+    readings(
+        b"-7/2\t%BEGIN;SEND(-7/2);%ENDOFPROGRAM\n\
+        2147483647+1\t%BEGIN;SEND(2147483647+1);%ENDOFPROGRAM\n\
+        -(\\2147483647)\t%BEGIN;SEND(-(\\2147483647));%ENDOFPROGRAM\n\
+        0**0\t%BEGIN;SEND(0**0);%ENDOFPROGRAM\n\
+        2**31\t%BEGIN;SEND(2**31);%ENDOFPROGRAM\n\
+        2**32\t%BEGIN;SEND(2**32);%ENDOFPROGRAM\n\
+        (\\0)>>31\t%BEGIN;SEND((\\0)>>31);%ENDOFPROGRAM\n\
+        1/3*3\t%BEGIN;SEND(1/3*3);%ENDOFPROGRAM\n\
+        6!!3\t%BEGIN;SEND(6!!3);%ENDOFPROGRAM\n\
+        -2**2\t%BEGIN;SEND(-2**2);%ENDOFPROGRAM\n\
+        'FRED'\t%BEGIN;SEND('FRED');%ENDOFPROGRAM\n\
+        ''''\t%BEGIN;SEND('''');%ENDOFPROGRAM",
     );
-    reading(b"0**0", b"%BEGIN;SEND(0**0);%ENDOFPROGRAM");
-    reading(b"2**31", b"%BEGIN;SEND(2**31);%ENDOFPROGRAM");
-    reading(b"2**32", b"%BEGIN;SEND(2**32);%ENDOFPROGRAM");
-    reading(b"(\\0)>>31", b"%BEGIN;SEND((\\0)>>31);%ENDOFPROGRAM");
-    reading(b"1/3*3", b"%BEGIN;SEND(1/3*3);%ENDOFPROGRAM");
-    reading(b"6!!3", b"%BEGIN;SEND(6!!3);%ENDOFPROGRAM");
-    reading(b"-2**2", b"%BEGIN;SEND(-2**2);%ENDOFPROGRAM");
-    reading(b"'FRED'", b"%BEGIN;SEND('FRED');%ENDOFPROGRAM");
-    reading(b"''''", b"%BEGIN;SEND('''');%ENDOFPROGRAM");
 }
 
 // "1<<32 faults 3. 2147483648 gives 6. Chapter 1's `'JIM''S'` (five characters) and `''` give 6. `'A' 'B'` is `'A''B'`,
 // 4269890."
 fn constants() {
-    reading(b"1<<32", b"%BEGIN;SEND(1<<32);%ENDOFPROGRAM");
-    reading(b"2147483648", b"%BEGIN\nSEND(2147483648)\n%ENDOFPROGRAM\n");
-    reading(b"'JIM''S'", b"%BEGIN;SEND('JIM''S');%ENDOFPROGRAM");
-    reading(b"''", b"%BEGIN;SEND('');%ENDOFPROGRAM");
-    reading(b"'A' 'B'", b"%BEGIN;SEND('A' 'B');%ENDOFPROGRAM");
-    reading(b"'A''B'", b"%BEGIN;SEND('A''B');%ENDOFPROGRAM");
+    readings(
+        b"1<<32\t%BEGIN;SEND(1<<32);%ENDOFPROGRAM\n\
+        2147483648\t%BEGIN;SEND(2147483648);%ENDOFPROGRAM\n\
+        'JIM''S'\t%BEGIN;SEND('JIM''S');%ENDOFPROGRAM\n\
+        ''\t%BEGIN;SEND('');%ENDOFPROGRAM\n\
+        'A' 'B'\t%BEGIN;SEND('A' 'B');%ENDOFPROGRAM\n\
+        'A''B'\t%BEGIN;SEND('A''B');%ENDOFPROGRAM",
+    );
 }
 
 // "`10: ! note` gives 7. `%INTEGER NAME` declares NAME. Empty source: 10, place 0." Without the space NAME is keyword letters
@@ -239,9 +284,11 @@ fn slips() {
         b"%BEGIN\n%IF 2147483647 < \\2147483647 %THEN SEND(1) %ELSE SEND(0)\n%ENDOFPROGRAM\n",
         &mut state,
     );
-    reading(b"2147483639", b"%BEGIN;SEND(2147483639);%ENDOFPROGRAM");
-    reading(b"2147483640", b"%BEGIN;SEND(2147483640);%ENDOFPROGRAM");
-    reading(b"2147483647", b"%BEGIN;SEND(2147483647);%ENDOFPROGRAM");
+    readings(
+        b"2147483639\t%BEGIN;SEND(2147483639);%ENDOFPROGRAM\n\
+        2147483640\t%BEGIN;SEND(2147483640);%ENDOFPROGRAM\n\
+        2147483647\t%BEGIN;SEND(2147483647);%ENDOFPROGRAM",
+    );
 }
 
 // The longest source, of newlines, and one byte more; a tab; quotes and a C that the source's end meets; and the most cells
@@ -258,45 +305,25 @@ fn bytes_and_cells() {
 
 // An end that is missing, an unknown name behind a jump to a label never set, labels, and one temporary too many.
 fn programs() {
-    reading(b"no end", b"%BEGIN;;SEND(1)");
-    reading(b"unknown name", b"%BEGIN;->1;SEND(A);%ENDOFPROGRAM");
-    reading(b"label never set", b"%BEGIN;SEND(1);->1;->2;%ENDOFPROGRAM");
-    reading(b"label at the end", b"%BEGIN;SEND(5);->1;1:;%ENDOFPROGRAM");
-    reading(
-        b"33 temporaries",
-        b"%BEGIN;SEND(0-(0-(0-(0-(0-(0-(0-(0-(0-(0-(0-(0-(0-(0-(0-(0-(0-(0-(0-(0-(0-(0-(0-(0-(0-(0-(0-(0-(0-(0-(0-(0-(0-0)))))))))))))))))))))))))))))))));%ENDOFPROGRAM",
+    readings(
+        b"no end\t%BEGIN;;SEND(1)\n\
+        unknown name\t%BEGIN;->1;SEND(A);%ENDOFPROGRAM\n\
+        label never set\t%BEGIN;SEND(1);->1;->2;%ENDOFPROGRAM\n\
+        label at the end\t%BEGIN;SEND(5);->1;1:;%ENDOFPROGRAM\n\
+        33 temporaries\t%BEGIN;SEND(0-(0-(0-(0-(0-(0-(0-(0-(0-(0-(0-(0-(0-(0-(0-(0-(0-(0-(0-(0-(0-(0-(0-(0-(0-(0-(0-(0-(0-(0-(0-(0-(0-0)))))))))))))))))))))))))))))))));%ENDOFPROGRAM",
     );
 }
 
 // Groups, document 02, L1: one in the first part of another, a label behind a first part, and the refusals 7, 11 and 13.
 fn groups() {
-    reading(
-        b"a group in a group",
-        b"%BEGIN;%IF 1=1 %THEN %START;%IF 1=2 %THEN %START;SEND(1);%FINISH %ELSE %START;SEND(2);%FINISH;%FINISH;%ENDOFPROGRAM",
-    );
-    reading(
-        b"a label behind a first part",
-        b"%BEGIN;%IF 1=1 %THEN %START;->1;1:;%FINISH %ELSE %START;SEND(1);%FINISH;SEND(2);%ENDOFPROGRAM",
-    );
-    reading(
-        b"labels alone in a group",
-        b"%BEGIN;%IF 1=1 %THEN %START;1:;%FINISH;%ENDOFPROGRAM",
-    );
-    reading(
-        b"a group left open",
-        b"%BEGIN;%IF 1=1 %THEN %START;->1;%ENDOFPROGRAM",
-    );
-    reading(
-        b"no group to close",
-        b"%BEGIN;SEND(1);%FINISH;%ENDOFPROGRAM",
-    );
-    reading(
-        b"%FINISH %ELSE with an instruction",
-        b"%BEGIN;%IF 1=1 %THEN %START;SEND(1);%FINISH %ELSE SEND(2);%ENDOFPROGRAM",
-    );
-    reading(
-        b"17 levels",
-        b"%BEGIN;%IF 1=1 %THEN %START;%IF 1=1 %THEN %START;%IF 1=1 %THEN %START;%IF 1=1 %THEN %START;%IF 1=1 %THEN %START;%IF 1=1 %THEN %START;%IF 1=1 %THEN %START;%IF 1=1 %THEN %START;%IF 1=1 %THEN %START;%IF 1=1 %THEN %START;%IF 1=1 %THEN %START;%IF 1=1 %THEN %START;%IF 1=1 %THEN %START;%IF 1=1 %THEN %START;%IF 1=1 %THEN %START;%IF 1=1 %THEN %START;%IF 1=1 %THEN SEND(1);%ENDOFPROGRAM",
+    readings(
+        b"a group in a group\t%BEGIN;%IF 1=1 %THEN %START;%IF 1=2 %THEN %START;SEND(1);%FINISH %ELSE %START;SEND(2);%FINISH;%FINISH;%ENDOFPROGRAM\n\
+        a label behind a first part\t%BEGIN;%IF 1=1 %THEN %START;->1;1:;%FINISH %ELSE %START;SEND(1);%FINISH;SEND(2);%ENDOFPROGRAM\n\
+        labels alone in a group\t%BEGIN;%IF 1=1 %THEN %START;1:;%FINISH;%ENDOFPROGRAM\n\
+        a group left open\t%BEGIN;%IF 1=1 %THEN %START;->1;%ENDOFPROGRAM\n\
+        no group to close\t%BEGIN;SEND(1);%FINISH;%ENDOFPROGRAM\n\
+        %FINISH %ELSE with an instruction\t%BEGIN;%IF 1=1 %THEN %START;SEND(1);%FINISH %ELSE SEND(2);%ENDOFPROGRAM\n\
+        17 levels\t%BEGIN;%IF 1=1 %THEN %START;%IF 1=1 %THEN %START;%IF 1=1 %THEN %START;%IF 1=1 %THEN %START;%IF 1=1 %THEN %START;%IF 1=1 %THEN %START;%IF 1=1 %THEN %START;%IF 1=1 %THEN %START;%IF 1=1 %THEN %START;%IF 1=1 %THEN %START;%IF 1=1 %THEN %START;%IF 1=1 %THEN %START;%IF 1=1 %THEN %START;%IF 1=1 %THEN %START;%IF 1=1 %THEN %START;%IF 1=1 %THEN %START;%IF 1=1 %THEN SEND(1);%ENDOFPROGRAM",
     );
 }
 
@@ -319,44 +346,24 @@ fn short_buffers() {
 // "Taking a JMP after an IF for its ELSE wherever the branch leads": an ELSE where the branch leads past a SKIP, and nowhere else; a
 // JMP is an instruction.
 fn choices() {
-    say(b"a branch past a SKIP: ");
-    read_back(
-        b"BOX\t1\t0\t9\nLOAD\tD\t2\nCMP\tK\t0\nBNE\tA\t6\nLOAD\tK\t1\nSEND\t-\t0\nSKIP\tA\t8\nLOAD\tK\t2\nSEND\t-\t0\nSTOP\t-\t0\n",
-    );
-    say(b"a branch past a JMP: ");
-    read_back(
-        b"BOX\t1\t0\t9\nLOAD\tD\t2\nCMP\tK\t0\nBNE\tA\t6\nLOAD\tK\t1\nSEND\t-\t0\nJMP\tA\t8\nLOAD\tK\t2\nSEND\t-\t0\nSTOP\t-\t0\n",
-    );
-    say(b"a branch to a JMP: ");
-    read_back(
-        b"BOX\t1\t0\t9\nLOAD\tD\t2\nCMP\tK\t0\nBNE\tA\t5\nLOAD\tK\t1\nSEND\t-\t0\nJMP\tA\t8\nLOAD\tK\t2\nSEND\t-\t0\nSTOP\t-\t0\n",
-    );
-    say(b"a branch to a SKIP: ");
-    read_back(
-        b"BOX\t1\t0\t9\nLOAD\tD\t2\nCMP\tK\t0\nBNE\tA\t5\nLOAD\tK\t1\nSEND\t-\t0\nSKIP\tA\t8\nLOAD\tK\t2\nSEND\t-\t0\nSTOP\t-\t0\n",
-    );
-    say(b"a branch further on: ");
-    read_back(
-        b"BOX\t1\t0\t9\nLOAD\tD\t2\nCMP\tK\t0\nBNE\tA\t7\nLOAD\tK\t1\nSEND\t-\t0\nSKIP\tA\t8\nLOAD\tK\t2\nSEND\t-\t0\nSTOP\t-\t0\n",
+    sheets(
+        b"a branch past a SKIP:BOX\t1\t0\t9\nLOAD\tD\t2\nCMP\tK\t0\nBNE\tA\t6\nLOAD\tK\t1\nSEND\t-\t0\nSKIP\tA\t8\nLOAD\tK\t2\nSEND\t-\t0\nSTOP\t-\t0\n.\
+        a branch past a JMP:BOX\t1\t0\t9\nLOAD\tD\t2\nCMP\tK\t0\nBNE\tA\t6\nLOAD\tK\t1\nSEND\t-\t0\nJMP\tA\t8\nLOAD\tK\t2\nSEND\t-\t0\nSTOP\t-\t0\n.\
+        a branch to a JMP:BOX\t1\t0\t9\nLOAD\tD\t2\nCMP\tK\t0\nBNE\tA\t5\nLOAD\tK\t1\nSEND\t-\t0\nJMP\tA\t8\nLOAD\tK\t2\nSEND\t-\t0\nSTOP\t-\t0\n.\
+        a branch to a SKIP:BOX\t1\t0\t9\nLOAD\tD\t2\nCMP\tK\t0\nBNE\tA\t5\nLOAD\tK\t1\nSEND\t-\t0\nSKIP\tA\t8\nLOAD\tK\t2\nSEND\t-\t0\nSTOP\t-\t0\n.\
+        a branch further on:BOX\t1\t0\t9\nLOAD\tD\t2\nCMP\tK\t0\nBNE\tA\t7\nLOAD\tK\t1\nSEND\t-\t0\nSKIP\tA\t8\nLOAD\tK\t2\nSEND\t-\t0\nSTOP\t-\t0\n",
     );
 }
 
 // Good objects that no sheet translates to, and the empty program, which is a sheet.
 fn near_misses() {
-    say(b"T one more than is used: ");
-    read_back(b"BOX\t1\t1\t3\nLOAD\tK\t7\nSTR\tD\t2\nSTOP\t-\t0\n");
-    say(b"a right operand that is plain and yet kept: ");
-    read_back(
-        b"BOX\t1\t2\t8\nLOAD\tK\t7\nSTR\tD\t3\nLOAD\tD\t2\nSTR\tD\t4\nLOAD\tD\t3\nADD\tD\t4\nSTR\tD\t2\nSTOP\t-\t0\n",
+    sheets(
+        b"T one more than is used:BOX\t1\t1\t3\nLOAD\tK\t7\nSTR\tD\t2\nSTOP\t-\t0\n.\
+        a right operand that is plain and yet kept:BOX\t1\t2\t8\nLOAD\tK\t7\nSTR\tD\t3\nLOAD\tD\t2\nSTR\tD\t4\nLOAD\tD\t3\nADD\tD\t4\nSTR\tD\t2\nSTOP\t-\t0\n.\
+        one temporary for both operands:BOX\t1\t2\t9\nLOAD\tK\t7\nSTR\tD\t3\nLOAD\tD\t2\nNEG\t-\t0\nSTR\tD\t3\nLOAD\tD\t3\nADD\tD\t3\nSTR\tD\t2\nSTOP\t-\t0\n.\
+        a jump into the middle of an instruction:BOX\t1\t0\t4\nLOAD\tK\t7\nSTR\tD\t2\nJMP\tA\t1\nSTOP\t-\t0\n.\
+        the empty program:BOX\t0\t0\t1\nSTOP\t-\t0\n",
     );
-    say(b"one temporary for both operands: ");
-    read_back(
-        b"BOX\t1\t2\t9\nLOAD\tK\t7\nSTR\tD\t3\nLOAD\tD\t2\nNEG\t-\t0\nSTR\tD\t3\nLOAD\tD\t3\nADD\tD\t3\nSTR\tD\t2\nSTOP\t-\t0\n",
-    );
-    say(b"a jump into the middle of an instruction: ");
-    read_back(b"BOX\t1\t0\t4\nLOAD\tK\t7\nSTR\tD\t2\nJMP\tA\t1\nSTOP\t-\t0\n");
-    say(b"the empty program: ");
-    read_back(b"BOX\t0\t0\t1\nSTOP\t-\t0\n");
 }
 
 // "A fault is met even with no budget left": DIV behind the one step that there is budget for, and SEND with budget 0.

@@ -1,4 +1,2 @@
 pub mod Testing
-pub mod Putting
-pub mod Leading
 pub mod Instructions

@@ -25,11 +25,11 @@ use Rattle.source.specs.Program.{jumpsIn, all, isLabel, level, temporariesIn, p
 use Rattle.labels.proofs.Finding.{labels-arrived, so-far-later}
 use Rattle.groups.specs.Memory.{groupWord}
 use Rattle.groups.proofs.Held.{held-more}
-use Rattle.fields.specs.declared.Put.{Put}
-use Rattle.fields.specs.declared.Put.the-variants.{Fields as PutFields, Unfit as NotPut}
+use Rattle.fields_put.specs.declared.Put.{Put}
+use Rattle.fields_put.specs.declared.Put.the-variants.{Fields as PutFields, Unfit as NotPut}
 use Rattle.fields.specs.Memory.{fieldJumps, packedField, unpacked, jumpIn, statementNumbers}
-use Rattle.fields.specs.Answers.{fields, putIn, putOf}
-use Rattle.fields.proofs.Putting.{put-fit}
+use Rattle.fields_put.specs.Answers.{fields, putIn, putOf}
+use Rattle.fields_put.proofs.Putting.{put-fit}
 use Rattle.fields.proofs.Instructions.{jumps-fields, jumps-append, fields-again, jumps-again}
 use Rattle.front_end_forms.specs.declared.Progress.{Progress}
 use Rattle.front_end_forms.specs.declared.Step.the-variants.{Further, Refused}

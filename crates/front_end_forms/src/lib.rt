@@ -1,9 +1,9 @@
 // What declarations, labels and instructions do to the program so far, document 01 and 02, L1: names, labels, limits, and their place
 // in the sheet.
-use fields::Put;
 use fields::all_known;
-use fields::append;
 use fields::good_jumps;
+use fields_put::Put;
+use fields_put::append;
 use groups::put_first;
 use labels::Set;
 use labels::set_labels;

@@ -18,11 +18,11 @@ use Rattle.source.specs.Program.{moved, putOff, takenUp, withFewOrders, regroup
 use Rattle.labels.specs.Answers.{Fits, PutsOff, TakesUp}
 use Rattle.groups.specs.Memory.{groupWord, beganIn, partIn, GroupsHeld}
 use Rattle.groups.proofs.Held.{began-of, isSecond, part-of, held-more, innermost, held-rest}
-use Rattle.fields.specs.declared.Put.{Put}
-use Rattle.fields.specs.declared.Put.the-variants.{Fields as PutFields, Unfit as NotPut}
+use Rattle.fields_put.specs.declared.Put.{Put}
+use Rattle.fields_put.specs.declared.Put.the-variants.{Fields as PutFields, Unfit as NotPut}
 use Rattle.fields.specs.Memory.{fieldJumps, unpacked, jumpIn}
-use Rattle.fields.specs.Answers.{fields, putIn, pushOf}
-use Rattle.fields.proofs.Putting.{push-fit}
+use Rattle.fields_put.specs.Answers.{fields, putIn, pushOf}
+use Rattle.fields_put.proofs.Putting.{push-fit}
 use Rattle.front_end_forms.specs.declared.Progress.{Progress}
 use Rattle.front_end_forms.specs.declared.Step.{Step}
 use Rattle.front_end_forms.specs.declared.Step.the-variants.{Further, Refused}

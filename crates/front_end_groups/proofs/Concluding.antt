@@ -15,11 +15,11 @@ use Rattle.names.specs.Memory.{nameAt}
 use Rattle.labels.specs.Memory.{labelsOf}
 use Rattle.groups.specs.Memory.{statementIn, GroupsHeld}
 use Rattle.groups.proofs.Held.{statement-of, innermost, held-rest}
-use Rattle.fields.specs.declared.Led.{Led}
-use Rattle.fields.specs.declared.Led.the-variants.{All, Unset as UnsetAt, Unfit as NotLed}
+use Rattle.fields_put.specs.declared.Led.{Led}
+use Rattle.fields_put.specs.declared.Led.the-variants.{All, Unset as UnsetAt, Unfit as NotLed}
 use Rattle.fields.specs.Memory.{labelOf, unpacked, jumping}
-use Rattle.fields.specs.Answers.{led, refusal, ledBy, ledAll, told, unfit, ledIn, ledOf}
-use Rattle.fields.proofs.Leading.{led-fit}
+use Rattle.fields_put.specs.Answers.{led, refusal, ledBy, ledAll, told, unfit, ledIn, ledOf}
+use Rattle.fields_put.proofs.Leading.{led-fit}
 use Rattle.fields.proofs.Instructions.{led-part}
 use Rattle.front_end_forms.specs.declared.Progress.{Progress}
 use Rattle.front_end_forms.specs.declared.Step.the-variants.{Refused, Given}

@@ -1,9 +1,9 @@
 // What `%FINISH`, `%FINISH %ELSE %START` and `%ENDOFPROGRAM` do to the program so far, document 01 and 02, L1: groups that are closed
 // or left open, and jumps led to instructions.
-use fields::Led;
-use fields::Put;
-use fields::lead_jumps;
-use fields::push;
+use fields_put::Led;
+use fields_put::Put;
+use fields_put::lead_jumps;
+use fields_put::push;
 use front_end_forms::Progress;
 use front_end_forms::Step;
 use groups::began_at;

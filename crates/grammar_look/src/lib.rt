@@ -6,7 +6,7 @@ use source::marks::MARK_ARROW;
 use source::marks::MARK_COLON;
 use source::marks::MARK_INVERT;
 use source::marks::MARK_OPEN;
-use source::number::token_at;
+use token_number::token_at;
 use word::Relation;
 ghost use mathlib.Core.Bool.{true};
 ghost use mathlib.Core.Path.{_≡_};

@@ -3,8 +3,8 @@
 // groups that are open round the IF.
 use source::GREATEST_LABEL;
 use source::TABLE_ROWS;
-use source::number::token_at;
-use source::number::value_of;
+use token_number::token_at;
+use token_number::value_of;
 ghost use mathlib.Core.Path.{_≡_};
 ghost use Prim.Native.Nat.{_+_};
 ghost use Rattle.source.specs.Program.{numberAt};

@@ -4,13 +4,13 @@ use base::word_at;
 use machine::OUTPUT_FULL;
 use machine::Registers;
 use order::Operation;
-use word::Answer;
 use word::Relation;
+use word_arithmetic::Answer;
 ghost use mathlib.Core.Path.{_≡_};
 ghost use lib.ListN.{getD, set};
 ghost use Rattle.base.specs.Choice.{pick};
 ghost use Rattle.word.specs.Word.{relatedToZero};
-ghost use Rattle.word.specs.Answers.{outcome};
+ghost use Rattle.word_arithmetic.specs.Answers.{outcome};
 ghost use Rattle.machine.specs.Machine.{goTo, endWith, operate};
 ghost use Rattle.machine_effect.specs.Internal.{moved, settled, Sends};
 
@@ -55,17 +55,17 @@ fn result_of(f: Operation, a: u32, x: u32) -> Answer
 {
     match f {
         Operation::Load => Answer::Value(x),
-        Operation::Add => Answer::Value(word::add(a, x)),
-        Operation::Sub => Answer::Value(word::sub(a, x)),
-        Operation::Mlt => Answer::Value(word::mul(a, x)),
-        Operation::Div => word::div(a, x),
-        Operation::Exp => word::pow(a, x),
-        Operation::Shl => word::shl(a, x),
-        Operation::Shr => word::shr(a, x),
-        Operation::And => Answer::Value(word::bit_and(a, x)),
-        Operation::Or => Answer::Value(word::bit_or(a, x)),
-        Operation::Xor => Answer::Value(word::bit_xor(a, x)),
-        Operation::Cmp => Answer::Value(word::cmp(a, x)),
+        Operation::Add => Answer::Value(word_arithmetic::add(a, x)),
+        Operation::Sub => Answer::Value(word_arithmetic::sub(a, x)),
+        Operation::Mlt => Answer::Value(word_arithmetic::mul(a, x)),
+        Operation::Div => word_arithmetic::div(a, x),
+        Operation::Exp => word_arithmetic::pow(a, x),
+        Operation::Shl => word_arithmetic::shl(a, x),
+        Operation::Shr => word_arithmetic::shr(a, x),
+        Operation::And => Answer::Value(word_arithmetic::bit_and(a, x)),
+        Operation::Or => Answer::Value(word_arithmetic::bit_or(a, x)),
+        Operation::Xor => Answer::Value(word_arithmetic::bit_xor(a, x)),
+        Operation::Cmp => Answer::Value(word_arithmetic::cmp(a, x)),
     }
 }
 
@@ -102,7 +102,7 @@ pub fn store(words: &mut [u32], w: u32, a: u32)
 pub fn branch(relation: Relation, a: u32, behind: usize, r: Registers) -> Registers
     ensures { λ s. ⌜ s ≡ pick (relatedToZero relation (r .acc)) (goTo a r) (moved (r .acc) behind r) ⌝ }
 {
-    if word::to_zero(relation, r.acc) {
+    if word_arithmetic::to_zero(relation, r.acc) {
         return go_to(a, r);
     }
     advance(r.acc, behind, r)

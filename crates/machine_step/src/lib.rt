@@ -13,14 +13,14 @@ use machine_effect::on_word;
 use machine_effect::send;
 use machine_effect::store;
 use order::Operation;
-use word::Answer;
 use word::Relation;
+use word_arithmetic::Answer;
 ghost use Prim.Native.Nat.{_/_};
 ghost use mathlib.Core.Path.{_≡_};
 ghost use lib.Dec.{ltb};
 ghost use lib.ListN.{length, getD};
 ghost use Rattle.base.specs.Choice.{pick};
-ghost use Rattle.word.specs.Answers.{outcome};
+ghost use Rattle.word_arithmetic.specs.Answers.{outcome};
 ghost use Rattle.order.specs.Memory.{orderOf, ordersIn};
 ghost use Rattle.machine.specs.Machine.{machine, nextEffect};
 ghost use Rattle.machine.specs.Internal.{stepped, faultOf};
@@ -55,8 +55,8 @@ fn carry_out(
     match number {
         0 => end_with(STOPPED, r),
         1 => send(output, behind, r),
-        2 => advance(word::neg(r.acc), behind, r),
-        3 => advance(word::bit_not(r.acc), behind, r),
+        2 => advance(word_arithmetic::neg(r.acc), behind, r),
+        3 => advance(word_arithmetic::bit_not(r.acc), behind, r),
         4 => go_to(v, r),
         5 => branch(Relation::Equal, v, behind, r),
         6 => branch(Relation::Unequal, v, behind, r),
@@ -150,14 +150,14 @@ pub fn fault_ahead(orders: &[u64], words: &[u32], output: &[u8], r: Registers) -
     let a = r.acc;
     match number {
         1 => full(output, r),
-        16 => fault_of(word::div(a, word_at(words, v as usize))),
-        17 => fault_of(word::pow(a, word_at(words, v as usize))),
-        18 => fault_of(word::shl(a, word_at(words, v as usize))),
-        19 => fault_of(word::shr(a, word_at(words, v as usize))),
-        28 => fault_of(word::div(a, v)),
-        29 => fault_of(word::pow(a, v)),
-        30 => fault_of(word::shl(a, v)),
-        31 => fault_of(word::shr(a, v)),
+        16 => fault_of(word_arithmetic::div(a, word_at(words, v as usize))),
+        17 => fault_of(word_arithmetic::pow(a, word_at(words, v as usize))),
+        18 => fault_of(word_arithmetic::shl(a, word_at(words, v as usize))),
+        19 => fault_of(word_arithmetic::shr(a, word_at(words, v as usize))),
+        28 => fault_of(word_arithmetic::div(a, v)),
+        29 => fault_of(word_arithmetic::pow(a, v)),
+        30 => fault_of(word_arithmetic::shl(a, v)),
+        31 => fault_of(word_arithmetic::shr(a, v)),
         _ => 0,
     }
 }

@@ -1,7 +1,7 @@
 // Document 01's readings of word arithmetic, worked out and written one to a line. The file stdout beside src/ has what
 // document 01 says of each.
 use libc::STDOUT_FILENO;
-use word::Answer;
+use word_arithmetic::Answer;
 
 fn main() {
     starred();
@@ -10,57 +10,66 @@ fn main() {
 }
 
 fn starred() {
-    show(b"-7/2", negated(word::div(7, 2)));
-    show(b"2147483647+1", Answer::Value(word::add(2147483647, 1)));
+    show(b"-7/2", negated(word_arithmetic::div(7, 2)));
+    show(
+        b"2147483647+1",
+        Answer::Value(word_arithmetic::add(2147483647, 1)),
+    );
     show(
         b"-(\\2147483647)",
-        negated(Answer::Value(word::bit_not(2147483647))),
+        negated(Answer::Value(word_arithmetic::bit_not(2147483647))),
     );
-    show(b"0**0", word::pow(0, 0));
-    show(b"2**31", word::pow(2, 31));
-    show(b"2**32", word::pow(2, 32));
-    show(b"(\\0)>>31", word::shr(word::bit_not(0), 31));
-    show(b"1/3*3", times(word::div(1, 3), 3));
-    show(b"6!!3", Answer::Value(word::bit_xor(6, 3)));
-    show(b"-2**2", negated(word::pow(2, 2)));
+    show(b"0**0", word_arithmetic::pow(0, 0));
+    show(b"2**31", word_arithmetic::pow(2, 31));
+    show(b"2**32", word_arithmetic::pow(2, 32));
+    show(
+        b"(\\0)>>31",
+        word_arithmetic::shr(word_arithmetic::bit_not(0), 31),
+    );
+    show(b"1/3*3", times(word_arithmetic::div(1, 3), 3));
+    show(b"6!!3", Answer::Value(word_arithmetic::bit_xor(6, 3)));
+    show(b"-2**2", negated(word_arithmetic::pow(2, 2)));
 }
 
 // The faults, and the quotient that wraps.
 fn faults() {
-    let least = word::bit_not(2147483647);
-    let minus_one = word::neg(1);
-    show(b"1<<32", word::shl(1, 32));
-    show(b"1>>(-1)", word::shr(1, minus_one));
-    show(b"1/0", word::div(1, 0));
-    show(b"2**(-1)", word::pow(2, minus_one));
-    show(b"(\\2147483647)/(-1)", word::div(least, minus_one));
-    show(b"3**2147483647", word::pow(3, 2147483647));
+    let least = word_arithmetic::bit_not(2147483647);
+    let minus_one = word_arithmetic::neg(1);
+    show(b"1<<32", word_arithmetic::shl(1, 32));
+    show(b"1>>(-1)", word_arithmetic::shr(1, minus_one));
+    show(b"1/0", word_arithmetic::div(1, 0));
+    show(b"2**(-1)", word_arithmetic::pow(2, minus_one));
+    show(
+        b"(\\2147483647)/(-1)",
+        word_arithmetic::div(least, minus_one),
+    );
+    show(b"3**2147483647", word_arithmetic::pow(3, 2147483647));
 }
 
 // Document 01's first slip: 2147483647 is not below \2147483647.
 fn comparisons() {
-    let least = word::bit_not(2147483647);
+    let least = word_arithmetic::bit_not(2147483647);
     show(
         b"2147483647 against \\2147483647",
-        Answer::Value(word::cmp(2147483647, least)),
+        Answer::Value(word_arithmetic::cmp(2147483647, least)),
     );
     show(
         b"\\2147483647 against 2147483647",
-        Answer::Value(word::cmp(least, 2147483647)),
+        Answer::Value(word_arithmetic::cmp(least, 2147483647)),
     );
-    show(b"7 against 7", Answer::Value(word::cmp(7, 7)));
+    show(b"7 against 7", Answer::Value(word_arithmetic::cmp(7, 7)));
 }
 
 fn negated(a: Answer) -> Answer {
     match a {
-        Answer::Value(w) => Answer::Value(word::neg(w)),
+        Answer::Value(w) => Answer::Value(word_arithmetic::neg(w)),
         _ => a,
     }
 }
 
 fn times(a: Answer, factor: u32) -> Answer {
     match a {
-        Answer::Value(w) => Answer::Value(word::mul(w, factor)),
+        Answer::Value(w) => Answer::Value(word_arithmetic::mul(w, factor)),
         _ => a,
     }
 }

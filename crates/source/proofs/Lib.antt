@@ -11,7 +11,6 @@ pub mod GoodParts
 pub mod GoodProgram
 pub mod Joining
 pub mod KnownWords
-pub mod Numbering
 pub mod Parts
 pub mod Places
 pub mod Printed

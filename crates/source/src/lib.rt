@@ -1,7 +1,5 @@
 // Sources, document 01 ("From bytes to statements", "Statements"): what the stages from source bytes to a sheet hand on.
-pub mod letters;
 pub mod marks;
-pub mod number;
 
 use sheet::Operator;
 use word::Relation;

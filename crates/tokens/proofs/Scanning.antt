@@ -17,7 +17,7 @@ use Rattle.source.specs.declared.Statement.{Statement}
 use Rattle.source.specs.Limits.{mostCells}
 use Rattle.source.specs.Memory.{tokenKind, tokenCarried, lexemeOf, lexemesFrom, held}
 use Rattle.source.specs.Tokens.{Lexeme, name, token, One, one, wrong, lexeme, Lexed, lexed, refused, behind, onOne, lexemesIn, lexemes}
-use Rattle.source.proofs.Numbering.{token-again}
+use Rattle.token_number.proofs.Numbering.{token-again}
 use Rattle.tokens_fixed.specs.declared.One.{One as Answer}
 use Rattle.tokens_fixed.specs.declared.One.the-variants.{Token as TokenAt, Name, Wrong}
 use Rattle.tokens_fixed.specs.Answers.{oneIn, Sound, Is}

@@ -1,6 +1,6 @@
 // One token: names, and the choice between the kinds of token.
-use source::letters::is_capital;
-use source::letters::is_small;
+use token_number::letters::is_capital;
+use token_number::letters::is_small;
 use tokens_constant::decimal_from;
 use tokens_constant::quoted_from;
 use tokens_fixed::One;

@@ -33,7 +33,7 @@ fn stored_of(one: One, at: usize) -> Stored
     ensures { λ r. ⌜ r ≡ storedOf at one ⌝ }
 {
     match one {
-        One::Token(t, q) => Stored::At(source::number::kind_of(t), source::number::value_of(t), q),
+        One::Token(t, q) => Stored::At(token_number::kind_of(t), token_number::value_of(t), q),
         One::Name(q) => Stored::At(0, (at * 256 + (q - at)) as u32, q),
         One::Wrong(k) => Stored::Wrong(k),
     }

@@ -3,7 +3,6 @@ pub mod Wrapping
 pub mod SignedType
 pub mod Quotient
 pub mod Bits
-pub mod Squaring
 pub mod Comparison
 pub mod Closed
 pub mod Agreement

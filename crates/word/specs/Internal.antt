@@ -1,9 +1,0 @@
--- What the functions that the crate keeps to itself are shown to do.
-use Prim.Native.Nat.{ℕ, _^_, _<_, _≤_}
-use mathlib.Core.Path.{_≡_}
-use Rattle.word.specs.Word.{wrap}
-
--- a power by repeated squaring: an exponent that is not negative takes at most 62 products
-pub record PowerOf (a n power products : ℕ) : Type 0 where
-  pub right : power ≡ wrap (a ^ n)
-  pub few : n < 2147483648 → products ≤ 62
