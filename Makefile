@@ -24,8 +24,7 @@ build: $(ARCHIVE)
 	@cd rust && cargo build --release --offline --locked --quiet --package skimp-tool
 
 # What the product does: a program from source to object, sheet and run; objects compared; refusals.
-demo: build
-	@$(MAKE) --no-print-directory target/demo/supervisor
+demo: build target/demo/supervisor
 	@tools/demo
 
 # The command with its manual page, and the archive with its header, below PREFIX. DESTDIR goes before it.
