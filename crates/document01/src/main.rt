@@ -3,8 +3,8 @@
 // objects that differ from a translation by little, and each refusal of an object. The file stdout beside src/ has what documents
 // 01 and 02 say of each.
 use base::part;
+use bytes::scan::find;
 use libc::STDOUT_FILENO;
-ghost use Prim.Native.Nat.{_≤_};
 
 fn main() {
     worked();
@@ -164,23 +164,9 @@ fn value(object: &[u8], state: &mut [u8]) {
     read_back(object);
 }
 
-// The place of the first mark from a place on; where there is none, that behind the last byte.
-fn until(text: &[u8], at: usize, mark: u8) -> usize
-    ensures { λ r. ⌜ at ≤ r ⌝ }
-{
-    let mut i = at;
-    while i < text.len() {
-        if text[i] == mark {
-            return i;
-        }
-        i += 1;
-    }
-    i
-}
-
 // A title, a tab, and the source of a reading.
 fn reading_in(case: &[u8]) {
-    let tab = until(case, 0, 9);
+    let tab = find(case, 0, case.len(), 9);
     if tab < case.len() {
         reading(part(case, 0, tab), part(case, tab + 1, case.len()));
     }
@@ -188,7 +174,7 @@ fn reading_in(case: &[u8]) {
 
 // A title, a colon, and an object, whose sheet is told.
 fn sheet_in(case: &[u8]) {
-    let colon = until(case, 0, 58);
+    let colon = find(case, 0, case.len(), 58);
     if colon < case.len() {
         say(part(case, 0, colon));
         say(b": ");
@@ -196,7 +182,7 @@ fn sheet_in(case: &[u8]) {
     }
 }
 
-fn one(case: &[u8], objects: bool) {
+fn show_case(case: &[u8], objects: bool) {
     if objects {
         sheet_in(case);
     } else {
@@ -205,11 +191,11 @@ fn one(case: &[u8], objects: bool) {
 }
 
 // The cases of a table, parted by a mark. One string for many of them is proved sooner than a string for each.
-fn all(table: &[u8], mark: u8, objects: bool) {
+fn show_cases(table: &[u8], mark: u8, objects: bool) {
     let mut at = 0;
     while at < table.len() {
-        let end = until(table, at, mark);
-        one(part(table, at, end - at), objects);
+        let end = find(table, at, table.len(), mark);
+        show_case(part(table, at, end - at), objects);
         if table.len() <= end {
             return;
         }
@@ -219,12 +205,12 @@ fn all(table: &[u8], mark: u8, objects: bool) {
 
 // Readings, a line each.
 fn readings(table: &[u8]) {
-    all(table, 10, false);
+    show_cases(table, 10, false);
 }
 
 // Objects, parted by points.
 fn sheets(table: &[u8]) {
-    all(table, 46, true);
+    show_cases(table, 46, true);
 }
 
 // The starred ones.

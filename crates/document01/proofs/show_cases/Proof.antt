@@ -3,8 +3,8 @@ use Prim.Native.Nat.{_-_}
 use borrow.Author.Needs.{needs}
 use native.Mathlib.Omega.{arith}
 use lib.ListN.{length}
-use Rattle.document01.proofs.all.Statement.{statement}
-use Rattle.document01.proofs.all.Tie as tie
+use Rattle.document01.proofs.show_cases.Statement.{statement}
+use Rattle.document01.proofs.show_cases.Tie as tie
 
 abbrev Inv-loop : tie.InvT-loop
 Inv-loop table mark objects at₀ at = Unit {0}
@@ -12,8 +12,8 @@ Inv-loop table mark objects at₀ at = Unit {0}
 abbrev μ-loop : tie.MeasureT-loop
 μ-loop table mark objects at₀ at = length table - at
 
-pub all-spec : {M : Type 1} → statement M
-all-spec =
+pub show-cases-spec : {M : Type 1} → statement M
+show-cases-spec =
     tie.close
     (tie.spec
     Inv-loop
