@@ -12,6 +12,7 @@ use names::declare;
 use order::MOST_ORDERS;
 use order::MOST_TEMPORARIES;
 use order::MOST_VARIABLES;
+use sheet_field::MOST_LEVELS;
 use source::MOST_LABELS;
 use translate_size::size_of;
 ghost use Prim.Native.Nat.{_≤_};
@@ -22,9 +23,6 @@ ghost use Rattle.labels.specs.Memory.{labelsAt};
 ghost use Rattle.front_end_forms.specs.Memory.{noProgress};
 ghost use Rattle.front_end_forms.specs.Answers.{Begins, Declares, KeepsCounts, SetsLabels, Instructs, FewCounts};
 ghost use Rattle.front_end_forms.specs.Internal.{tooDeep, Opens, Places};
-
-// `mostLevels` of sheet/specs/Within.antt.
-pub const MOST_LEVELS: u32 = 16;
 
 // How far a program was read: which stage it is in (0 nothing, 1 declarations, 2 instructions), and how many names, labels,
 // fields, instructions, orders and open groups there are.

@@ -2,6 +2,7 @@
 use order::MOST_VARIABLES;
 use sheet::Field;
 use sheet_field::MOST_FIELDS;
+use sheet_field::MOST_LEVELS;
 use sheet_field::field_in;
 ghost use Prim.Native.Nat.{_+_, _≤_, _<_};
 ghost use mathlib.Core.Path.{_≡_};
@@ -14,9 +15,7 @@ ghost use Rattle.sheet_check.specs.Internal.{begins, begun, withValues, 
 ghost use Rattle.sheet_check.specs.Internal.{instructionStep, relationStep, opened as openedOf, startStep, stepOf, atInstruction, isFinal, start, accepts};
 ghost use Rattle.sheet_check.specs.Answers.{Checks};
 
-// `mostLevels` of sheet/specs/Within.antt, and the greatest constant.
-const MOST_LEVELS: u32 = 16;
-
+// The greatest constant.
 const GREATEST_CONSTANT: u32 = 2147483647;
 
 // What must come next, where no expression is left to come: an instruction or the end of a part, START, or a relation.

@@ -17,6 +17,9 @@ ghost use Rattle.sheet_field.specs.Memory.{fieldWord, fieldIn};
 // `mostFields` of specs/Memory.antt.
 pub const MOST_FIELDS: usize = 2048;
 
+// `mostLevels` of sheet's specs/Within.antt.
+pub const MOST_LEVELS: u32 = 16;
+
 pub fn operator_number(o: Operator) -> u8
     ensures numbered { λ r. ⌜ r ≡ operatorNumber o ⌝ }
     ensures few { λ r. ⌜ r < 10 ⌝ }

@@ -3,6 +3,7 @@
 use order::Order;
 use order_number::order_in;
 use sheet::Field;
+use sheet_field::MOST_LEVELS;
 use sheet_field::opposite_of;
 use untranslate_expression::Spot;
 use untranslate_expression::order_at;
@@ -23,9 +24,6 @@ ghost use Rattle.untranslate_part.specs.Guess.{Guessing};
 
 // `mostOrders` of order's specs/Limits.antt.
 const MOST_ORDERS: usize = order::MOST_ORDERS as usize;
-
-// `mostLevels` of sheet's specs/Within.antt.
-const MOST_LEVELS: u32 = 16;
 
 // What an order is to the instructions: inside one; the last of one with an expression, whose first field is told; a jump, a branch,
 // a SKIP, STOP.
