@@ -95,6 +95,7 @@ module _ (s : List ℕ) (at : ℕ) (cells : List ℕ) (m : Mode) (held i : ℕ) 
               forward = omega arith;
               inside = omega arith;
               some = step .bounded .0;
+              short = omega arith;
               few = step .bounded .1;
             };
       }
@@ -128,7 +129,7 @@ module _ (s : List ℕ) (at : ℕ) (cells : List ℕ) (m : Mode) (held i : ℕ) 
         let inside : i ≤ length s + (at - length s) = reads .inside in
         record {
           same = ap (_then_ (take held cells)) nothing-left ∙ ends-as cells held (reads .room) (reads .few) m Whole told ∙ at-last;
-          moved = record { behind = no-byte; forward = omega arith; inside = omega arith; some = some; few = fits .1 };
+          moved = record { behind = no-byte; forward = omega arith; inside = omega arith; some = some; short = on; few = fits .1 };
         }
 
     pub no-statement : endingOf m held (lastHeld held cells) ≡ Nothing → Gathered s at cells held Ended

@@ -1,5 +1,5 @@
 -- What the answers of the public functions stand for. Comments in quotes are document 01's words.
-use Prim.Native.Nat.{ℕ, suc, _<_, _≤_}
+use Prim.Native.Nat.{ℕ, suc, _+_, _<_, _≤_}
 use mathlib.Core.Path.{_≡_}
 use mathlib.Core.List.{List, [], _∷_}
 use lib.ListN.{length, drop}
@@ -55,12 +55,13 @@ offsetBehind i m cells [] = i
 offsetBehind i m cells (b ∷ bs) = stopped (turn m b cells) (suc i) (λ n more. offsetBehind (suc i) n more bs)
 
 -- a statement of the source s, read from an offset on: where the next one begins, which is further on and not behind the end;
--- it has at least a cell, and an end mark fits behind its cells
+-- it has at least a cell, no more cells than bytes were read, and an end mark fits behind its cells
 pub record Within (s : List ℕ) (at after cells : ℕ) : Type 0 where
   pub behind : after ≡ offsetBehind at Plain [] (drop at s)
   pub forward : at < after
   pub inside : after ≤ length s
   pub some : 0 < cells
+  pub short : at + cells ≤ after
   pub few : cells < mostCells
 
 abbrev pub MovedTo : List ℕ → ℕ → ℕ → Reading → Type 0

@@ -21,7 +21,7 @@ use Rattle.source.specs.Tokens.{isDigit, inName, keywordAt, decimalValue
 use Rattle.source.specs.Tokens.{constantOf, signAt, lexeme, Lexed, lexed, behind, onOne, lexemesIn, lexemes}
 
 -- the last cells of others
-data Rest : List ℕ → List ℕ → Type 0 where
+pub data Rest : List ℕ → List ℕ → Type 0 where
   all : {cells : List ℕ} → Rest cells cells
   past : {c : ℕ} {cells rest : List ℕ} → Rest cells rest → Rest (c ∷ cells) rest
 
@@ -57,7 +57,7 @@ text-leaves (c ∷ d ∷ cells) =
     (λ n. longer-leaves c c (d ∷ cells) (textAt (d ∷ cells)) behind-c)
 
 module _ (cells : List ℕ) where
-  abbrev Leaves : One → Type 0
+  abbrev pub Leaves : One → Type 0
   Leaves (one x rest) = Rest cells rest
   Leaves (wrong n) = Unit {0}
 
@@ -144,7 +144,7 @@ module _ (c : ℕ) (cells : List ℕ) where
   unfolding pick
   in-name y = rw y refl
 
-  leaves : Leaves cells (lexeme c cells)
+  pub leaves : Leaves cells (lexeme c cells)
   unfolding lexeme
   leaves =
       either-part (Leaves cells) (isSmall c) _ _
@@ -165,7 +165,7 @@ module _ (c : ℕ) (cells : List ℕ) where
 
 -- ---- all cells
 
-rest-shorter : {cells rest : List ℕ} → Rest cells rest → length rest ≤ length cells
+pub rest-shorter : {cells rest : List ℕ} → Rest cells rest → length rest ≤ length cells
 rest-shorter all = omega arith
 rest-shorter (past r) = let h = rest-shorter r in omega (arith, h)
 

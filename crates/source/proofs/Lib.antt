@@ -11,6 +11,7 @@ pub mod GoodParts
 pub mod GoodProgram
 pub mod Joining
 pub mod KnownWords
+pub mod Letters
 pub mod Parts
 pub mod Places
 pub mod Printed

@@ -2,7 +2,7 @@
 use Prim.Native.Nat.{ℕ, zero, suc, _+_, _/_, _%_}
 use mathlib.Core.List.{List, [], _∷_, _++_, map}
 use lib.Dec.{eqb}
-use lib.ListN.{getD, take, drop}
+use lib.ListN.{length, getD, take, drop}
 use Rattle.base.specs.Choice.{pick}
 use Rattle.sheet_field.specs.Memory.{operatorNumber, relationNumber, operators, relations}
 use Rattle.source.specs.declared.Statement.{Statement}
@@ -62,3 +62,8 @@ lexemesFrom k (suc n) cells ks vs =
 -- their rows: one statement can pass the 64 that are allowed by 128
 abbrev pub tableRows : ℕ
 tableRows = 192
+
+-- how many letters names have together
+unfoldable pub lettersIn : List (List ℕ) → ℕ
+lettersIn [] = 0
+lettersIn (n ∷ ns) = length n + lettersIn ns
