@@ -165,7 +165,7 @@ fn line(program: &Program) {
     }
     let [ours, other] = least.map(|time| time.as_secs_f64() * 1e9 / f64::from(steps));
     println!(
-        "{:<18}{steps:>10}{ours:>12.2}{other:>12.2}{:>12.2}",
+        "{:<22}{steps:>10}{ours:>12.2}{other:>12.2}{:>12.2}",
         program.name,
         ours / other
     );
@@ -174,7 +174,7 @@ fn line(program: &Program) {
 /// Prints the table of run.
 pub fn report() {
     println!(
-        "{:<18}{:>10}{:>12}{:>12}{:>12}",
+        "{:<22}{:>10}{:>12}{:>12}{:>12}",
         "run", "steps", "proved ns", "Rust ns", "ratio"
     );
     for program in programs() {

@@ -1,5 +1,5 @@
-//! Sources: a small program, one of the most bytes with 64 long names, a random one, groups in groups,
-//! and those found to cost most for a byte or most against the reference.
+//! Sources: a small program, 60 names of 200 letters and 64 short ones, a random program, groups in
+//! groups, and those found to cost most for a byte or most against the reference.
 
 use skimp_reference::generate::Plan;
 use skimp_reference::random::Random;
@@ -11,6 +11,8 @@ use crate::inputs::{Input, MOST_LEVELS, MOST_ORDERS};
 
 const MOST_LABELS: usize = 64;
 const MOST_VARIABLES: usize = 64;
+/// The names of 200 letters: they leave room in the most bytes for 18 of them to be sent.
+const LONG_NAMES: usize = 60;
 /// The cells of a statement before its end mark.
 const MOST_CELLS: usize = 255;
 
@@ -19,9 +21,11 @@ pub fn all() -> Vec<Input> {
     vec![
         Input::new("small", small.to_string()),
         Input::new("empty", program("", "")),
-        Input::new("long names", long_names()),
-        Input::new("like names", like_names(30)),
-        Input::new("short names", like_names(2)),
+        Input::new("60 long names", long_names(names(200))),
+        Input::new("60 long names, heads", long_names(headed_names(200))),
+        Input::new("like names", like_names(30, 1)),
+        Input::new("short names", like_names(2, 1)),
+        Input::new("64 short names", like_names(2, MOST_VARIABLES)),
         random(),
         Input::new("assignments", with_a(&"A=A\n".repeat(MOST_ORDERS / 2))),
         Input::new("jumps", jumps()),
@@ -47,15 +51,25 @@ fn with_a(instructions: &str) -> String {
     program("%INTEGER A\n", instructions)
 }
 
+/// Names of two letters, the second a digit.
+fn short_names() -> impl Iterator<Item = String> {
+    let letter = |first: u8, place: usize| char::from(first + place as u8);
+    (0..MOST_VARIABLES).map(move |place| {
+        let (row, column) = (letter(b'A', place / 8), letter(b'0', place % 8));
+        format!("{row}{column}")
+    })
+}
+
 /// Names of so many letters, which differ in the last two only.
 fn names(letters: usize) -> Vec<String> {
     let front = "N".repeat(letters - 2);
-    let letter = |first: u8, place: usize| char::from(first + place as u8);
-    let name = |place: usize| {
-        let (row, column) = (letter(b'A', place / 8), letter(b'0', place % 8));
-        format!("{front}{row}{column}")
-    };
-    (0..MOST_VARIABLES).map(name).collect()
+    short_names().map(|end| front.clone() + &end).collect()
+}
+
+/// The same, but they differ in the first two only.
+fn headed_names(letters: usize) -> Vec<String> {
+    let rest = "N".repeat(letters - 2);
+    short_names().map(|head| head + &rest).collect()
 }
 
 /// Their declarations, as few statements as there may be.
@@ -67,9 +81,9 @@ fn declarations(names: &[String]) -> String {
     lists.collect()
 }
 
-/// Names of 200 letters, each declared by itself and sent, up to the most bytes.
-fn long_names() -> String {
-    let names = names(200);
+/// Long names, each declared by itself, and sent, the last first, up to the most bytes.
+fn long_names(mut names: Vec<String>) -> String {
+    names.truncate(LONG_NAMES);
     let lists = declarations(&names);
     let mut sends = String::new();
     for name in names.iter().rev().cycle() {
@@ -88,15 +102,25 @@ fn padded(source: String) -> String {
     format!("{source}!{}", "*".repeat(room))
 }
 
-/// The name that was declared last, over and over, up to the most bytes or orders.
-fn like_names(letters: usize) -> String {
+/// Names of so many letters. The last of them, so many, are used one after the other, over and over,
+/// up to the most bytes or orders.
+fn like_names(letters: usize, used: usize) -> String {
     let names = names(letters);
     let lists = declarations(&names);
-    let last = &names[MOST_VARIABLES - 1];
-    let statements = chains(&format!("{last}={last}"), &format!("-{last}"));
+    let mut turn = names[MOST_VARIABLES - used..].iter().cycle();
+    // no program has this: it stands for a name until all statements are there
+    let any = "?".repeat(letters);
+    let statements = chains(&format!("{any}={any}"), &format!("-{any}"));
     let room = MOST_SOURCE - program(&lists, "").len();
     let fitting = statements[..room.min(statements.len())].rfind('\n');
-    program(&lists, &statements[..=fitting.expect("a statement")])
+    let statements = &statements[..=fitting.expect("a statement")];
+    let named = statements
+        .split_inclusive(&any)
+        .map(|piece| match piece.strip_suffix(&any) {
+            Some(front) => front.to_string() + turn.next().expect("a name"),
+            None => piece.to_string(),
+        });
+    program(&lists, &named.collect::<String>())
 }
 
 /// A random program of all orders, in a random spelling.

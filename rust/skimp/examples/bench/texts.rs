@@ -70,7 +70,7 @@ fn line(name: &str, text: &[u8], calls: Calls) -> Vec<u8> {
     }
     let [ours, other] = least.map(|time| time.as_secs_f64() * 1e9 / text.len() as f64);
     println!(
-        "{name:<18}{:>10}{ours:>12.2}{other:>12.2}{:>12.2}",
+        "{name:<22}{:>10}{ours:>12.2}{other:>12.2}{:>12.2}",
         text.len(),
         ours / other
     );
@@ -79,7 +79,7 @@ fn line(name: &str, text: &[u8], calls: Calls) -> Vec<u8> {
 
 fn header(call: &str) {
     println!(
-        "{call:<18}{:>10}{:>12}{:>12}{:>12}",
+        "{call:<22}{:>10}{:>12}{:>12}{:>12}",
         "bytes", "proved ns", "Rust ns", "ratio"
     );
 }
