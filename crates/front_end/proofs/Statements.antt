@@ -4,7 +4,7 @@ use mathlib.Core.Path.{_≡_, refl, sym, ap, _∙_}
 use mathlib.Core.List.{List, [], _∷_}
 use native.Mathlib.Omega.{arith}
 use native.Mathlib.Numerals.{add-one}
-use lib.ListN.{length, drop}
+use lib.ListN.{length, drop, length-take}
 use Rattle.base.specs.Choice.{pick}
 use Rattle.base.specs.Places.{each}
 use Rattle.base.proofs.Cases.{by-test}
@@ -16,18 +16,22 @@ use Rattle.source.specs.declared.Mode.the-variants.{Plain}
 use Rattle.source.specs.Cells.{Statements, ended, cut, _then_, statementsFrom, statements}
 use Rattle.source.specs.Program.{Program, nothingRead, countOutside, ordersOutside, Outcome, statement}
 use Rattle.source.specs.Source.{Answer, accepted, onOutcome, program, NotAllowed, isAllowed, notAllowed, offset, allAllowed, onAllowed, answer}
-use Rattle.source.specs.Memory.{held}
+use Rattle.source.specs.Memory.{held, lettersIn}
+use Rattle.source.specs.Limits.{mostBytes}
+use Rattle.source.specs.declared.Statement.{Statement}
+use Rattle.source.proofs.Letters.{statement-letters}
+use Rattle.name_index.proofs.Addition.{none-held}
 use Rattle.cells.specs.declared.Found.{Found}
 use Rattle.cells.specs.declared.Found.the-variants.{At, Missing}
 use Rattle.cells.specs.declared.Next.{Next}
-use Rattle.cells.specs.declared.Reading.the-variants.{Statement, Ended, Cut}
+use Rattle.cells.specs.declared.Reading.the-variants.{Statement as ReadTo, Ended, Cut}
 use Rattle.cells.specs.Answers.{Bytes, refused as notBytes, allowed as allBytes, found, foundOf, unrolled, Moved, Within}
 use Rattle.fields.specs.Memory.{fieldJumps}
 use Rattle.groups.specs.Memory.{GroupsHeld}
 use Rattle.front_end_forms.specs.declared.Progress.{Progress}
 use Rattle.front_end_forms.specs.declared.Step.{Step}
 use Rattle.front_end_forms.specs.declared.Step.the-variants.{Further, Refused, Given, Unfit}
-use Rattle.front_end_forms.specs.Memory.{Holds, Held, noProgress, outsideFields}
+use Rattle.front_end_forms.specs.Memory.{NameTable, Holds, Held, noProgress, outsideFields}
 use Rattle.front_end_forms.specs.Answers.{Comes}
 use Rattle.front_end_forms.proofs.Stages.{says}
 use Rattle.front_end.specs.declared.Answer.the-variants.{Sheet as SheetIs}
@@ -35,17 +39,21 @@ use Rattle.front_end.specs.Answers.{Told, told, answered, fieldsOfSheet,
 use Rattle.front_end.specs.Internal.{Rooms, Going}
 use borrow.Author.Tests.{lt-ltb, le-ltb}
 
+-- no more cells than it says
+held-short : (s : Statement) → length (held s) ≤ s .length
+held-short s = let l = length-take (s .length) (s .cells) in omega (arith, l)
+
 -- ---- nothing was read
 
-pub starting : {source ns ls gs fs : List ℕ} → Rooms source ns ls gs fs → Going source 0 0 noProgress ns ls gs fs
-unfolding outsideFields countOutside ordersOutside partFields count size fieldJumps GroupsHeld fieldsFrom each
+pub starting : {source : List ℕ} {ns : NameTable} {ls gs fs : List ℕ} → Rooms source ns ls gs fs → Going source 0 0 noProgress ns ls gs fs
+unfolding outsideFields countOutside ordersOutside partFields count size fieldJumps GroupsHeld fieldsFrom each lettersIn
 starting room =
     record {
       so-far = nothingRead;
       holds =
           record {
             staged = refl;
-            its-names = record { named = refl; few-names = omega arith; room-for-names = room .room-for-names };
+            its-names = record { named = none-held (room .room-for-letters) (room .room-for-rows); few-names = omega arith };
             its-labels = record { labelled = refl; so-far = λ i h small. absurd (omega (arith, h)); few-labels = omega arith; room-for-labels = room .room-for-labels };
             its-groups = record { grouped = tt; opened = refl; few-levels = omega arith; room-for-groups = room .room-for-groups };
             its-fields =
@@ -61,6 +69,7 @@ starting room =
       same = refl;
       inside = omega arith;
       fewer = omega arith;
+      few-letters = omega arith;
     }
 
 -- the sheet that is held
@@ -72,7 +81,7 @@ held-told {p} {fs} {s} h =
 
 -- ---- one statement
 
-module _ {source ns ls gs fs : List ℕ} {at k : ℕ} {p : Progress} (g : Going source at k p ns ls gs fs) where
+module _ {source : List ℕ} {ns : NameTable} {ls gs fs : List ℕ} {at k : ℕ} {p : Progress} (g : Going source at k p ns ls gs fs) where
   left : Statements
   left = statementsFrom Plain [] (drop at source)
 
@@ -90,7 +99,7 @@ module _ {source ns ls gs fs : List ℕ} {at k : ℕ} {p : Progress} (g : Going 
         let t : cut m ≡ statementsFrom Plain [] (drop at source) = rw z at e in
         ap (refusedAt m) (add-one k) ∙ whole (ap (program (g .so-far) k) (sym t))
 
-    module _ (after : ℕ) (z : n .reading ≡ Statement after) where
+    module _ (after : ℕ) (z : n .reading ≡ ReadTo after) where
       one-more : (held (n .statement)) then statementsFrom Plain [] (drop after source) ≡ statementsFrom Plain [] (drop at source)
       one-more = rw z at e
 
@@ -103,7 +112,7 @@ module _ {source ns ls gs fs : List ℕ} {at k : ℕ} {p : Progress} (g : Going 
           (λ r. onOutcome r (λ q. program q (suc k) (statementsFrom Plain [] (drop after source))))
           (ap (λ j. statement (g .so-far) j (held (n .statement))) (sym (add-one k)) ∙ s)
 
-      module _ {ns′ ls′ gs′ fs′ : List ℕ} {r : Step} (one : Comes (λ o m. Holds o m ns′ ls′ gs′ fs′) (Held p fs′) r (statement (g .so-far) (k + 1) (held (n .statement)))) where
+      module _ {ns′ : NameTable} {ls′ gs′ fs′ : List ℕ} {r : Step} (one : Comes (λ o m. Holds o m ns′ ls′ gs′ fs′) (Held p fs′) r (statement (g .so-far) (k + 1) (held (n .statement)))) where
         pub is-refused : (m j : ℕ) → r ≡ Refused m j → refusedAt m j ≡ answered (program nothingRead 0 (statements source))
         unfolding onOutcome
         is-refused m j s = let t = says (rw s at one) in whole (goes-on t)
@@ -117,26 +126,41 @@ module _ {source ns ls gs fs : List ℕ} {at k : ℕ} {p : Progress} (g : Going 
             let t = says (rw s at one) in
             held-told (t .kept) ∙ whole (goes-on (t .same))
 
-        pub is-further : (m : Progress) → r ≡ Further m → at < after → after ≤ length source → Going source after (k + 1) m ns′ ls′ gs′ fs′
+        pub is-further : (m : Progress) → r ≡ Further m → Within source at after (n .statement .length) → Going source after (k + 1) m ns′ ls′ gs′ fs′
         unfolding onOutcome
-        is-further m s forward inside =
+        is-further m s w =
             let t = says (rw s at one) in
+            let forward = w .forward in
+            let letters-before = g .few-letters in
+            let letters-then = statement-letters (g .so-far) (t .program) (k + 1) (held (n .statement)) (t .same) in
+            let few-cells = held-short (n .statement) in
+            let short = w .short in
             record {
               so-far = t .program;
               holds = t .kept;
               same = ap (λ j. program (t .program) j (statementsFrom Plain [] (drop after source))) (add-one k) ∙ sym (goes-on (t .same)) ∙ g .same;
-              inside = inside;
+              inside = w .inside;
               fewer = let f = g .fewer in omega (arith, f, forward);
+              few-letters = omega (arith, letters-before, letters-then, few-cells, short);
             }
 
 -- ---- where the next statement lies
 
-pub moved-to : {s : List ℕ} {at : ℕ} (n : Next) (after : ℕ) → Moved s at n → n .reading ≡ Statement after → Within s at after (n .statement .length)
+pub moved-to : {s : List ℕ} {at : ℕ} (n : Next) (after : ℕ) → Moved s at n → n .reading ≡ ReadTo after → Within s at after (n .statement .length)
 moved-to n after h e = rw e at h
 
 -- fewer statements than bytes
-pub few-statements : {source ns ls gs fs : List ℕ} {at k : ℕ} {p : Progress} → Going source at k p ns ls gs fs → length source ≤ 16384 → k + 1 < 65536
+pub few-statements : {source : List ℕ} {ns : NameTable} {ls gs fs : List ℕ} {at k : ℕ} {p : Progress} → Going source at k p ns ls gs fs → length source ≤ 16384 → k + 1 < 65536
 few-statements g h = let a = g .fewer in let b = g .inside in omega (arith, a, b, h)
+
+-- the letters of its names have room
+pub letters-fit : {source : List ℕ} {ns : NameTable} {ls gs fs : List ℕ} {at k after cells : ℕ} {p : Progress} (g : Going source at k p ns ls gs fs)
+    → Within source at after cells → length source ≤ 16384 → lettersIn (g .so-far .names) + cells ≤ mostBytes
+letters-fit g w h =
+    let a = g .few-letters in
+    let b = w .short in
+    let c = w .inside in
+    omega (arith, a, b, c, h)
 
 -- ---- before any statement
 

@@ -9,13 +9,13 @@ use front_end_statement::statement;
 use sheet_field::MOST_FIELDS;
 use sheet_field::MOST_LEVELS;
 use source::MOST_BYTES;
-use source::MOST_CELLS;
 use source::TABLE_ROWS;
 ghost use mathlib.Core.Path.{_≡_};
 ghost use lib.ListN.{length};
 ghost use Rattle.source.specs.Cells.{statements};
 ghost use Rattle.source.specs.Program.{nothingRead};
 ghost use Rattle.source.specs.Source.{program};
+ghost use Rattle.front_end_forms.specs.Memory.{tableOf};
 ghost use Rattle.front_end.specs.Answers.{told, answered, answeredIn};
 ghost use Rattle.front_end.specs.Internal.{Rooms};
 
@@ -30,12 +30,13 @@ pub enum Answer {
 // The statements of a source, one after the other.
 fn read_statements(
     source: &[u8],
-    names: &mut [u8],
+    letters: &mut [u8],
+    index: &mut [u32],
     labels: &mut [u32],
     groups: &mut [u64],
     fields: &mut [u64],
 ) -> Answer
-    requires { ⌜ Rooms (now source) (now names) (now labels) (now groups) (now fields) ⌝ }
+    requires { ⌜ Rooms (now source) (tableOf (now letters) (now index)) (now labels) (now groups) (now fields) ⌝ }
     ensures { λ r. ⌜ told r (now (fields .exit)) ≡ answered (program nothingRead 0 (statements (now (source .entry)))) ⌝ }
 {
     let mut at = 0;
@@ -49,7 +50,7 @@ fn read_statements(
             Reading::Cut(n) => return Answer::Refused(n, k + 1),
             Reading::Statement(q) => {
                 k += 1;
-                match statement(next.statement, p, k, names, labels, groups, fields) {
+                match statement(next.statement, p, k, letters, index, labels, groups, fields) {
                     Step::Further(n) => {
                         p = n;
                         at = q;
@@ -81,8 +82,16 @@ pub fn read(source: &[u8], fields: &mut [u64]) -> Answer
     if let Found::At(i) = not_allowed(source) {
         return Answer::Refused(2, i as u32);
     }
-    let mut names = [0u8; TABLE_ROWS as usize * MOST_CELLS];
+    let mut letters = [0u8; MOST_BYTES];
+    let mut index = [0u32; TABLE_ROWS as usize];
     let mut labels = [0u32; TABLE_ROWS as usize];
     let mut groups = [0u64; MOST_LEVELS as usize];
-    read_statements(source, &mut names, &mut labels, &mut groups, fields)
+    read_statements(
+        source,
+        &mut letters,
+        &mut index,
+        &mut labels,
+        &mut groups,
+        fields,
+    )
 }

@@ -18,7 +18,7 @@ use Rattle.labels.specs.Answers.{labels, setIn, setAll, SetsLabels, SoFarIn}
 use Rattle.labels.proofs.Setting.{not-set-all, set-together, set-whole, never-unfit}
 use Rattle.front_end_forms.specs.declared.Progress.{Progress}
 use Rattle.front_end_forms.specs.declared.Step.the-variants.{Further, Refused}
-use Rattle.front_end_forms.specs.Memory.{Holds}
+use Rattle.front_end_forms.specs.Memory.{NameTable, Holds}
 use Rattle.front_end_forms.specs.Answers.{Comes, NoSheet, FewCounts, SameCounts}
 use Rattle.front_end_forms.proofs.Stages.{comes-refused, comes-further}
 
@@ -27,6 +27,7 @@ abbrev inInstructions : Progress → ℕ → Progress
 inInstructions p c = record {
   stage = 2;
   names = p .names;
+  letters = p .letters;
   labels = c;
   fields = p .fields;
   instructions = p .instructions;
@@ -37,7 +38,7 @@ inInstructions p c = record {
 pub labels-same : (p : Progress) (c : ℕ) → SameCounts p (inInstructions p c)
 labels-same p c = record { instructions-same = refl; fields-same = refl; orders-same = refl; groups-same = refl }
 
-module _ {q : Program} {p : Progress} {ns ls gs fs : List ℕ} (h : Holds q p ns ls gs fs) (counts : FewCounts p) (k : ℕ) (new : List ℕ)
+module _ {q : Program} {p : Progress} {ns : NameTable} {ls gs fs : List ℕ} (h : Holds q p ns ls gs fs) (counts : FewCounts p) (k : ℕ) (new : List ℕ)
     (few : length new ≤ 128) (r : Set) (after : List ℕ) (sets : SetsLabels ls (p .labels) (p .instructions + 1) new r after) where
   -- there is room for them
   all-told : setIn (p .instructions + 1) r after ≡ setAll (q .set) new

@@ -33,7 +33,7 @@ use Rattle.fields_put.proofs.Putting.{put-fit}
 use Rattle.fields.proofs.Instructions.{jumps-fields, jumps-append, fields-again, jumps-again}
 use Rattle.front_end_forms.specs.declared.Progress.{Progress}
 use Rattle.front_end_forms.specs.declared.Step.the-variants.{Further, Refused}
-use Rattle.front_end_forms.specs.Memory.{programFields, HoldsLabels, HoldsGroups, HoldsFields, Holds}
+use Rattle.front_end_forms.specs.Memory.{NameTable, programFields, HoldsLabels, HoldsGroups, HoldsFields, Holds}
 use Rattle.front_end_forms.specs.Answers.{Comes, NoSheet, FewCounts, goesOn, IsInstruction}
 use Rattle.front_end_forms.specs.Internal.{tooDeep, Opens}
 use Rattle.front_end_forms.proofs.Stages.{comes-refused, comes-further}
@@ -46,7 +46,7 @@ module _ {gs : List Group} {x : Part} {js : List _} {n many orders : ℕ} {ws : 
   pub fields-many : n ≡ length (programFields gs x)
   fields-many = sym (fields-length 0 n ws) ∙ sym (length-map (fieldsFrom 0 n ws) unpacked) ∙ ap length (h .fielded)
 
-pub counts-few : {q : Program} {p : Progress} {ns ls gs fs : List ℕ} → Holds q p ns ls gs fs → FewCounts p
+pub counts-few : {q : Program} {p : Progress} {ns : NameTable} {ls gs fs : List ℕ} → Holds q p ns ls gs fs → FewCounts p
 counts-few {q} h =
     let all = h .its-fields in
     let orders-too = all .ordered 0 in
@@ -119,7 +119,7 @@ module _ (k : ℕ) {gs : List Group} (x : Part) {many : ℕ} {ws : List ℕ} (h 
 
 -- ---- an instruction
 
-module _ {q : Program} {p : Progress} {ns ls gs fs : List ℕ} (h : Holds q p ns ls gs fs) (k : ℕ) (i : Instruction) (own : List ℕ) (opens : Bool)
+module _ {q : Program} {p : Progress} {ns : NameTable} {ls gs fs : List ℕ} (h : Holds q p ns ls gs fs) (k : ℕ) (i : Instruction) (own : List ℕ) (opens : Bool)
     (is : IsInstruction own opens i) (z : Size) (size-too : SizeOf own z) where
   abbrev v : ℕ
   v = length (q .names)
@@ -253,6 +253,7 @@ module _ {q : Program} {p : Progress} {ns ls gs fs : List ℕ} (h : Holds q p ns
           (Further (record {
             stage = 2;
             names = p .names;
+            letters = p .letters;
             labels = p .labels;
             fields = m;
             instructions = p .instructions + z .instructions;

@@ -11,7 +11,7 @@ use Rattle.source.specs.Program.{labelling, instructing, finishing, alternating
 use Rattle.front_end_forms.specs.declared.Progress.{Progress}
 use Rattle.front_end_forms.specs.declared.Step.{Step}
 use Rattle.front_end_forms.specs.declared.Step.the-variants.{Further, Refused, Given, Unfit}
-use Rattle.front_end_forms.specs.Memory.{stageNumber, Holds}
+use Rattle.front_end_forms.specs.Memory.{NameTable, stageNumber, Holds}
 use Rattle.front_end_forms.specs.Answers.{Comes, refuses, goes, gives}
 
 -- ---- the outcome that a step stands for, where the outcome is known
@@ -79,7 +79,7 @@ module _ {q : Program} {k : ℕ} {xs : List Lexeme} {f : Form} {o : Outcome} (b 
   in-later declarations n = b .among-declarations
   in-later instructions n = b .among-instructions
 
-  module _ {p : Progress} {ns ls gs fs : List ℕ} (h : Holds q p ns ls gs fs) {P : Program → Progress → Type 0} {G : Sheet → Type 0} where
+  module _ {p : Progress} {ns : NameTable} {ls gs fs : List ℕ} (h : Holds q p ns ls gs fs) {P : Program → Progress → Type 0} {G : Sheet → Type 0} where
     pub early : p .stage ≡ 0 → Comes P G (Refused 7 k) (inOrder q (q .stage) k xs f)
     early e = comes-refused 7 k (in-first (q .stage) (sym (h .staged) ∙ e))
 

@@ -1,6 +1,6 @@
 -- What a statement of each form does to a program in memory, stated of every program that the arguments hold. Nothing is said of
 -- arguments that hold none: the layer calls its functions with none such.
-use Prim.Native.Nat.{ℕ, _≤_, _<_}
+use Prim.Native.Nat.{ℕ, _+_, _≤_, _<_}
 use mathlib.Core.Bool.{Bool, true, false}
 use mathlib.Core.Path.{_≡_}
 use mathlib.Core.List.{List}
@@ -9,6 +9,8 @@ use Rattle.order.specs.Limits.{mostOrders}
 use Rattle.sheet.specs.Sheet.{Sheet}
 use Rattle.sheet.specs.Within.{mostLevels}
 use Rattle.sheet_field.specs.Memory.{fieldsAt, mostFields}
+use Rattle.source.specs.Limits.{mostBytes}
+use Rattle.source.specs.Memory.{lettersIn}
 use Rattle.source.specs.Tokens.{Lexeme}
 use Rattle.source.specs.Grammar.{Instruction, simple, ifThen, ifElse, ifStart}
 use Rattle.source.specs.Grammar.{beginning, declaration, labels as labelled-by, instruction as labelled-instruction}
@@ -18,7 +20,7 @@ use Rattle.fields.specs.Memory.{statementNumbers}
 use Rattle.front_end_forms.specs.declared.Progress.{Progress}
 use Rattle.front_end_forms.specs.declared.Step.{Step}
 use Rattle.front_end_forms.specs.declared.Step.the-variants.{Further, Refused, Given, Unfit}
-use Rattle.front_end_forms.specs.Memory.{Holds}
+use Rattle.front_end_forms.specs.Memory.{NameTable, Holds}
 
 -- a step and the outcome that it stands for: P holds of a program that goes on, G of a sheet. No outcome is unfit.
 pub data Comes (P : Program → Progress → Type 0) (G : Sheet → Type 0) : Step → Outcome → Type 0 where
@@ -39,16 +41,17 @@ pub record FewCounts (p : Progress) : Type 0 where
 -- %BEGIN
 abbrev pub Begins : Progress → ℕ → Step → Type 0
 Begins p k r =
-    (q : Program) (ns ls gs fs : List ℕ) (xs : List Lexeme)
+    (q : Program) (ns : NameTable) (ls gs fs : List ℕ) (xs : List Lexeme)
     → Holds q p ns ls gs fs
     → Comes (λ o n. Holds o n ns ls gs fs) NoSheet r (inOrder q (q .stage) k xs beginning)
 
 -- a declaration of the names among xs
-abbrev pub Declares : Progress → ℕ → List Lexeme → List ℕ → Step → List ℕ → Type 0
+abbrev pub Declares : Progress → ℕ → List Lexeme → NameTable → Step → NameTable → Type 0
 Declares p k xs before r after =
     (q : Program) (ls gs fs : List ℕ)
     → Holds q p before ls gs fs
     → length (namesIn xs) ≤ 128
+    → lettersIn (q .names) + lettersIn (namesIn xs) ≤ mostBytes
     → Comes (λ o n. Holds o n after ls gs fs) NoSheet r (inOrder q (q .stage) k xs declaration)
 
 -- labels change nothing else that is counted
@@ -67,7 +70,7 @@ KeepsCounts p Unfit = Unit {0}
 -- the labels ls of a statement
 abbrev pub SetsLabels : Progress → ℕ → List ℕ → List ℕ → Step → List ℕ → Type 0
 SetsLabels p k ls before r after =
-    (q : Program) (ns gs fs : List ℕ) (xs : List Lexeme)
+    (q : Program) (ns : NameTable) (gs fs : List ℕ) (xs : List Lexeme)
     → Holds q p ns before gs fs
     → length ls ≤ 128
     → Comes (λ o n. Holds o n ns after gs fs) NoSheet r (inOrder q (q .stage) k xs (labelled-by ls))
@@ -87,7 +90,7 @@ pub record IsInstruction (own : List ℕ) (opens : Bool) (i : Instruction) : Typ
 -- an instruction with its labels
 abbrev pub Instructs : Progress → ℕ → List ℕ → List ℕ → Bool → List ℕ → List ℕ → List ℕ → Step → List ℕ → List ℕ → List ℕ → Type 0
 Instructs p k labels own opens before-ls before-gs before-fs r ls gs fs =
-    (q : Program) (ns : List ℕ) (xs : List Lexeme) (i : Instruction)
+    (q : Program) (ns : NameTable) (xs : List Lexeme) (i : Instruction)
     → Holds q p ns before-ls before-gs before-fs
     → k < statementNumbers
     → IsInstruction own opens i

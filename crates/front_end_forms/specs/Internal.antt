@@ -13,7 +13,7 @@ use Rattle.groups.specs.Memory.{groupWord}
 use Rattle.fields.specs.Memory.{statementNumbers}
 use Rattle.front_end_forms.specs.declared.Progress.{Progress}
 use Rattle.front_end_forms.specs.declared.Step.{Step}
-use Rattle.front_end_forms.specs.Memory.{Holds}
+use Rattle.front_end_forms.specs.Memory.{NameTable, Holds}
 use Rattle.front_end_forms.specs.Answers.{Comes, NoSheet, IsInstruction}
 
 abbrev pub tooDeep : Bool → ℕ → ℕ → Bool
@@ -27,7 +27,7 @@ Opens k began false many ws r after = (r ≡ many) × (after ≡ ws)
 -- an instruction behind its labels
 abbrev pub Places : Progress → ℕ → List ℕ → Bool → List ℕ → List ℕ → Step → List ℕ → List ℕ → Type 0
 Places p k own opens before-gs before-fs r gs fs =
-    (q : Program) (ns ls : List ℕ) (i : Instruction)
+    (q : Program) (ns : NameTable) (ls : List ℕ) (i : Instruction)
     → Holds q p ns ls before-gs before-fs
     → k < statementNumbers
     → IsInstruction own opens i

@@ -1,5 +1,5 @@
 -- A program in memory: what numbers and arrays hold of it while it is read.
-use Prim.Native.Nat.{ℕ, _+_, _*_, _≤_, _<_}
+use Prim.Native.Nat.{ℕ, _+_, _≤_, _<_}
 use mathlib.Core.Path.{_≡_}
 use mathlib.Core.List.{List, [], _∷_, _++_, map}
 use lib.ListN.{length}
@@ -11,12 +11,12 @@ use Rattle.sheet.specs.Fields.{partFields, sheetFields}
 use Rattle.sheet.specs.Translation.{size}
 use Rattle.sheet.specs.Within.{mostLevels}
 use Rattle.sheet_field.specs.Memory.{fieldsFrom, mostFields}
-use Rattle.source.specs.Limits.{mostCells, mostLabels}
+use Rattle.source.specs.Limits.{mostLabels}
 use Rattle.source.specs.Memory.{tableRows}
 use Rattle.source.specs.Grammar.{ifStart}
 use Rattle.source.specs.Fields.{instructionFields}
 use Rattle.source.specs.Program.{Program, Stage, nothing, declarations, instructions, Label, Jump, Group, first, second, countOutside, ordersOutside}
-use Rattle.names.specs.Memory.{namesOf}
+use Rattle.name_index.specs.Memory.{NamesHeld}
 use Rattle.labels.specs.Memory.{labelsOf, SoFar}
 use Rattle.groups.specs.Memory.{GroupsHeld}
 use Rattle.fields.specs.Memory.{fieldJumps, unpacked, jumpIn}
@@ -28,7 +28,7 @@ stageNumber declarations = 1
 stageNumber instructions = 2
 
 abbrev pub noProgress : Progress
-noProgress = record { stage = 0; names = 0; labels = 0; fields = 0; instructions = 0; orders = 0; groups = 0 }
+noProgress = record { stage = 0; names = 0; letters = 0; labels = 0; fields = 0; instructions = 0; orders = 0; groups = 0 }
 
 -- the fields before the innermost list that is not closed, and all of them
 unfoldable pub outsideFields : List Group → List Field
@@ -40,11 +40,18 @@ outsideFields (second k x c y ∷ gs) =
 abbrev pub programFields : List Group → Part → List Field
 programFields gs x = outsideFields gs ++ partFields x
 
--- a table holds the names of v variables
-pub record HoldsNames (ns : List (List ℕ)) (v : ℕ) (table : List ℕ) : Type 0 where
-  pub named : namesOf v table ≡ ns
+-- the two arrays for names
+pub record NameTable : Type 0 where
+  pub letters : List ℕ
+  pub index : List ℕ
+
+abbrev pub tableOf : List ℕ → List ℕ → NameTable
+tableOf letters index = record { letters = letters; index = index }
+
+-- they hold the names of v variables, which have so many letters
+pub record HoldsNames (ns : List (List ℕ)) (v filled : ℕ) (table : NameTable) : Type 0 where
+  pub named : NamesHeld ns v filled (table .letters) (table .index)
   pub few-names : v ≤ mostVariables
-  pub room-for-names : length table ≡ tableRows * mostCells
 
 -- a table holds c labels, where n is the number of the next instruction
 pub record HoldsLabels (ls : List Label) (c n : ℕ) (table : List ℕ) : Type 0 where
@@ -70,9 +77,9 @@ pub record HoldsFields (gs : List Group) (x : Part) (js : List Jump) (n many ord
   pub room-for-fields : length array ≡ mostFields
 
 -- numbers and arrays hold the program q
-pub record Holds (q : Program) (p : Progress) (names labels groups fields : List ℕ) : Type 0 where
+pub record Holds (q : Program) (p : Progress) (names : NameTable) (labels groups fields : List ℕ) : Type 0 where
   pub staged : p .stage ≡ stageNumber (q .stage)
-  pub its-names : HoldsNames (q .names) (p .names) names
+  pub its-names : HoldsNames (q .names) (p .names) (p .letters) names
   pub its-labels : HoldsLabels (q .set) (p .labels) (p .instructions + 1) labels
   pub its-groups : HoldsGroups (q .groups) (p .groups) groups
   pub its-fields : HoldsFields (q .groups) (q .here) (q .jumps) (p .fields) (p .instructions) (p .orders) fields

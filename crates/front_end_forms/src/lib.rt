@@ -20,15 +20,16 @@ ghost use mathlib.Core.Path.{_≡_};
 ghost use Rattle.sheet.specs.Within.{mostLevels};
 ghost use Rattle.source.specs.Memory.{lexemesFrom};
 ghost use Rattle.labels.specs.Memory.{labelsAt};
-ghost use Rattle.front_end_forms.specs.Memory.{noProgress};
+ghost use Rattle.front_end_forms.specs.Memory.{noProgress, tableOf};
 ghost use Rattle.front_end_forms.specs.Answers.{Begins, Declares, KeepsCounts, SetsLabels, Instructs, FewCounts};
 ghost use Rattle.front_end_forms.specs.Internal.{tooDeep, Opens, Places};
 
-// How far a program was read: which stage it is in (0 nothing, 1 declarations, 2 instructions), and how many names, labels,
-// fields, instructions, orders and open groups there are.
+// How far a program was read: which stage it is in (0 nothing, 1 declarations, 2 instructions), and how many names, letters
+// of names, labels, fields, instructions, orders and open groups there are.
 pub struct Progress {
     pub stage: u8,
     pub names: u8,
+    pub letters: u32,
     pub labels: u32,
     pub fields: usize,
     pub instructions: u32,
@@ -51,6 +52,7 @@ pub fn nothing_read() -> Progress
     Progress {
         stage: 0,
         names: 0,
+        letters: 0,
         labels: 0,
         fields: 0,
         instructions: 0,
@@ -69,6 +71,7 @@ pub fn begin(p: Progress, k: u32) -> Step
     Step::Further(Progress {
         stage: 1,
         names: p.names,
+        letters: p.letters,
         labels: p.labels,
         fields: p.fields,
         instructions: p.instructions,
@@ -85,21 +88,23 @@ pub fn declaration(
     kinds: &[u8],
     values: &[u32],
     n: usize,
-    names: &mut [u8],
+    letters: &mut [u8],
+    index: &mut [u32],
 ) -> Step
-    ensures { λ r. ⌜ Declares p k (lexemesFrom 0 n (now (cells .entry)) (now (kinds .entry)) (now (values .entry))) (now (names .entry)) r (now (names .exit)) ⌝ }
+    ensures { λ r. ⌜ Declares p k (lexemesFrom 0 n (now (cells .entry)) (now (kinds .entry)) (now (values .entry))) (tableOf (now (letters .entry)) (now (index .entry))) r (tableOf (now (letters .exit)) (now (index .exit))) ⌝ }
 {
     if p.stage != 1 {
         return Step::Refused(7, k);
     }
-    match declare(cells, kinds, values, n, names, p.names) {
-        Declared::Names(v) => {
+    match declare(cells, kinds, values, n, letters, index, p.names, p.letters) {
+        Declared::Names(v, filled) => {
             if MOST_VARIABLES < v as u32 {
                 return Step::Refused(11, k);
             }
             Step::Further(Progress {
                 stage: 1,
                 names: v,
+                letters: filled,
                 labels: p.labels,
                 fields: p.fields,
                 instructions: p.instructions,
@@ -136,6 +141,7 @@ pub fn label(
             Step::Further(Progress {
                 stage: 2,
                 names: p.names,
+                letters: p.letters,
                 labels: c,
                 fields: p.fields,
                 instructions: p.instructions,
@@ -203,6 +209,7 @@ fn place(
     Step::Further(Progress {
         stage: 2,
         names: p.names,
+        letters: p.letters,
         labels: p.labels,
         fields: n,
         instructions,

@@ -26,7 +26,7 @@ use Rattle.fields_put.proofs.Putting.{push-fit}
 use Rattle.front_end_forms.specs.declared.Progress.{Progress}
 use Rattle.front_end_forms.specs.declared.Step.{Step}
 use Rattle.front_end_forms.specs.declared.Step.the-variants.{Further, Refused}
-use Rattle.front_end_forms.specs.Memory.{programFields, HoldsLabels, HoldsFields, Holds}
+use Rattle.front_end_forms.specs.Memory.{NameTable, programFields, HoldsLabels, HoldsFields, Holds}
 use Rattle.front_end_forms.specs.Answers.{Comes, NoSheet, FewCounts}
 use Rattle.front_end_forms.proofs.Stages.{comes-refused, comes-further}
 use Rattle.front_end_forms.proofs.Counting.{first-fields, first-count, first-orders, else-fields, else-count, else-orders, second-fields, second-count, second-orders, program-twice}
@@ -44,7 +44,7 @@ else-none q k [] e = refl
 else-none q k (first j x c ∷ hs) e = absurd (omega arith)
 else-none q k (second j x c y ∷ hs) e = absurd (omega arith)
 
-module _ {q : Program} {p : Progress} {ns ls gs fs : List ℕ} (h : Holds q p ns ls gs fs) (k : ℕ) {P : Program → Progress → Type 0} {G : Sheet → Type 0} (none : p .groups ≡ 0) where
+module _ {q : Program} {p : Progress} {ns : NameTable} {ls gs fs : List ℕ} (h : Holds q p ns ls gs fs) (k : ℕ) {P : Program → Progress → Type 0} {G : Sheet → Type 0} (none : p .groups ≡ 0) where
   pub finish-stray : Comes P G (Refused 13 k) (finishing q k (q .groups))
   finish-stray = comes-refused 13 k (finish-none q k (q .groups) (sym (h .its-groups .opened) ∙ none))
 
@@ -53,7 +53,7 @@ module _ {q : Program} {p : Progress} {ns ls gs fs : List ℕ} (h : Holds q p ns
 
 -- ---- what the innermost group's number tells
 
-module _ {q : Program} {p : Progress} {ns ls gs fs : List ℕ} (h : Holds q p ns ls gs fs) (counts : FewCounts p) (open-too : p .groups ≡ 0 → ⊥) where
+module _ {q : Program} {p : Progress} {ns : NameTable} {ls gs fs : List ℕ} (h : Holds q p ns ls gs fs) (counts : FewCounts p) (open-too : p .groups ≡ 0 → ⊥) where
   inner-began : (hs : List Group) → GroupsHeld hs gs → p .groups ≡ length hs → countOutside hs < 2147483648
       → beganIn (getD gs (p .groups - 1) 0) ≡ countOutside hs
   inner-began [] held e few = absurd (open-too e)
@@ -89,7 +89,7 @@ else-empty q k [] n e = absurd (n refl)
 else-empty q k (first j x c ∷ hs) n e = rw (eq-eqb (count (q .here)) 0 e) refl
 else-empty q k (second j x c y ∷ hs) n e = refl
 
-module _ {q : Program} {p : Progress} {ns ls gs fs : List ℕ} (h : Holds q p ns ls gs fs) (counts : FewCounts p) (k : ℕ) (open-too : p .groups ≡ 0 → ⊥)
+module _ {q : Program} {p : Progress} {ns : NameTable} {ls gs fs : List ℕ} (h : Holds q p ns ls gs fs) (counts : FewCounts p) (k : ℕ) (open-too : p .groups ≡ 0 → ⊥)
     (b : ℕ) (known : b ≡ beganIn (getD gs (p .groups - 1) 0)) (same : b ≡ p .instructions) {P : Program → Progress → Type 0} {G : Sheet → Type 0} where
   pub finish-vain : Comes P G (Refused 7 k) (finishing q k (q .groups))
   finish-vain =
@@ -128,7 +128,7 @@ unfolding fieldJumps
 else-jumps = refl
 
 -- the labels can be moved
-label-fits : {q : Program} {p : Progress} {ns ls gs fs : List ℕ} → Holds q p ns ls gs fs → FewCounts p → Fits (p .instructions + 1) (p .groups - 1) (p .labels) ls
+label-fits : {q : Program} {p : Progress} {ns : NameTable} {ls gs fs : List ℕ} → Holds q p ns ls gs fs → FewCounts p → Fits (p .instructions + 1) (p .groups - 1) (p .labels) ls
 label-fits h counts = record {
   few-instructions = omega (arith, counts .few-instructions);
   few-groups = omega (arith, counts .few-levels);
@@ -137,7 +137,7 @@ label-fits h counts = record {
 
 -- ---- %FINISH
 
-module _ {q : Program} {p : Progress} {ns ls gs fs : List ℕ} (h : Holds q p ns ls gs fs) (counts : FewCounts p) (k : ℕ) (open-too : p .groups ≡ 0 → ⊥)
+module _ {q : Program} {p : Progress} {ns : NameTable} {ls gs fs : List ℕ} (h : Holds q p ns ls gs fs) (counts : FewCounts p) (k : ℕ) (open-too : p .groups ≡ 0 → ⊥)
     (b : ℕ) (known : b ≡ beganIn (getD gs (p .groups - 1) 0)) (other : b ≡ p .instructions → ⊥)
     (r : Put) (after : List ℕ) (told : putIn r after ≡ pushOf Finish (p .fields) fs) (kept : length after ≡ length fs) where
   some-groups : 1 ≤ length (q .groups)
@@ -154,6 +154,7 @@ module _ {q : Program} {p : Progress} {ns ls gs fs : List ℕ} (h : Holds q p ns
     nowCounted = record {
       stage = p .stage;
       names = p .names;
+      letters = p .letters;
       labels = p .labels;
       fields = m;
       instructions = p .instructions;
@@ -221,7 +222,7 @@ module _ {q : Program} {p : Progress} {ns ls gs fs : List ℕ} (h : Holds q p ns
 
 -- ---- %FINISH %ELSE %START
 
-module _ {q : Program} {p : Progress} {ns ls gs fs : List ℕ} (h : Holds q p ns ls gs fs) (counts : FewCounts p) (k : ℕ) (open-too : p .groups ≡ 0 → ⊥)
+module _ {q : Program} {p : Progress} {ns : NameTable} {ls gs fs : List ℕ} (h : Holds q p ns ls gs fs) (counts : FewCounts p) (k : ℕ) (open-too : p .groups ≡ 0 → ⊥)
     (t : Bool) (told : t ≡ eqb (partIn (getD gs (p .groups - 1) 0)) 1) where
   inner-part : (g : Group) (hs : List Group) → q .groups ≡ g ∷ hs → partIn (getD gs (p .groups - 1) 0) ≡ isSecond g
   inner-part g hs is =
@@ -262,7 +263,7 @@ module _ {q : Program} {p : Progress} {ns ls gs fs : List ℕ} (h : Holds q p ns
     else-first more = else-by (q .groups) refl more
 
 -- the second part
-module _ {q : Program} {p : Progress} {ns ls gs fs : List ℕ} (h : Holds q p ns ls gs fs) (counts : FewCounts p) (k j : ℕ) (x : Part) (c : Condition)
+module _ {q : Program} {p : Progress} {ns : NameTable} {ls gs fs : List ℕ} (h : Holds q p ns ls gs fs) (counts : FewCounts p) (k j : ℕ) (x : Part) (c : Condition)
     (hs : List Group) (is : q .groups ≡ first j x c ∷ hs) where
   abbrev nowRead : Program
   nowRead = regrouped q (putOff (length hs)) (second k x c (q .here) ∷ hs) end
@@ -294,6 +295,7 @@ module _ {q : Program} {p : Progress} {ns ls gs fs : List ℕ} (h : Holds q p ns
       nowSecond = record {
         stage = p .stage;
         names = p .names;
+        letters = p .letters;
         labels = p .labels;
         fields = m;
         instructions = p .instructions;

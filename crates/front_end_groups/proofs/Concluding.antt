@@ -4,14 +4,12 @@ use mathlib.Core.Path.{_≡_, refl, sym, ap, ap₂, _∙_}
 use mathlib.Core.List.{List, [], _∷_, map}
 use native.Mathlib.Omega.{arith}
 use lib.ListN.{length, getD}
-use Rattle.base.proofs.Places.{each-length}
 use Rattle.sheet.specs.declared.Field.{Field}
 use Rattle.sheet.specs.Sheet.{Sheet, count}
 use Rattle.sheet.specs.Fields.{partFields}
 use Rattle.sheet_field.specs.Memory.{fieldsFrom}
 use Rattle.source.specs.Program.{Program, Outcome, refused, Group, countOutside, nextNumber, closed, Unset, unset, allSet, firstUnset, numberOf, sheetOf, finished, concluding}
 use Rattle.source.proofs.Parts.{count-same}
-use Rattle.names.specs.Memory.{nameAt}
 use Rattle.labels.specs.Memory.{labelsOf}
 use Rattle.groups.specs.Memory.{statementIn, GroupsHeld}
 use Rattle.groups.proofs.Held.{statement-of, innermost, held-rest}
@@ -23,7 +21,7 @@ use Rattle.fields_put.proofs.Leading.{led-fit}
 use Rattle.fields.proofs.Instructions.{led-part}
 use Rattle.front_end_forms.specs.declared.Progress.{Progress}
 use Rattle.front_end_forms.specs.declared.Step.the-variants.{Refused, Given}
-use Rattle.front_end_forms.specs.Memory.{outsideFields, programFields, Holds, Held}
+use Rattle.front_end_forms.specs.Memory.{NameTable, outsideFields, programFields, Holds, Held}
 use Rattle.front_end_forms.specs.Answers.{Comes, refuses, gives, FewCounts}
 use Rattle.front_end_forms.proofs.Stages.{comes-refused}
 
@@ -45,7 +43,7 @@ closed-none : (gs : List Group) (o : Outcome) → gs ≡ [] → closed gs o ≡ 
 unfolding closed
 closed-none gs o e = rw e refl
 
-module _ {q : Program} {p : Progress} {ns ls gs fs : List ℕ} (h : Holds q p ns ls gs fs) where
+module _ {q : Program} {p : Progress} {ns : NameTable} {ls gs fs : List ℕ} (h : Holds q p ns ls gs fs) where
   pub left-open : {P : Program → Progress → Type 0} {G : Sheet → Type 0} → (p .groups ≡ 0 → ⊥) → (s : ℕ) → s ≡ statementIn (getD gs 0 0)
       → Comes P G (Refused 13 s) (concluding q)
   left-open n s known =
@@ -90,7 +88,7 @@ module _ {q : Program} {p : Progress} {ns ls gs fs : List ℕ} (h : Holds q p ns
 
     sheet-held : fieldsFrom 0 (p .fields) after ≡ map (jumping (λ l. numberOf (nextNumber q) (q .set) (labelOf l))) held-fields → Held p after (sheetOf q)
     sheet-held same = record {
-      variables-too = sym (each-length (nameAt ns) 0 (p .names)) ∙ ap length (h .its-names .named);
+      variables-too = h .its-names .named .counted;
       instructions-too = counted-all ∙ sym (count-same (numberOf (nextNumber q) (q .set)) (q .here));
       fields-too = same ∙ led-part (numberOf (nextNumber q) (q .set)) held-fields (q .here) plain-fields;
     }

@@ -41,6 +41,7 @@ pub fn finish(p: Progress, k: u32, labels: &mut [u32], groups: &[u64], fields: &
     Step::Further(Progress {
         stage: p.stage,
         names: p.names,
+        letters: p.letters,
         labels: p.labels,
         fields: n,
         instructions: p.instructions,
@@ -71,6 +72,7 @@ fn second_part(
     Step::Further(Progress {
         stage: p.stage,
         names: p.names,
+        letters: p.letters,
         labels: p.labels,
         fields: n,
         instructions: p.instructions,

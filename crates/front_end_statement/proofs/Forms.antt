@@ -22,9 +22,10 @@ use Rattle.source.specs.Grammar.{Form, beginning, declaration, ending, labels, 
 use Rattle.source.specs.Grammar.{form, only, finishing, Labelled, labelled as labelledTokens, labelledForm, labelsAt as labelsBefore, entire, instructionAt}
 use Rattle.source.specs.Grammar.{Read, read, none}
 use Rattle.source.specs.Fields.{instructionFields}
-use Rattle.source.specs.Memory.{tokensFrom, lexemeOf, lexemesFrom, held}
+use Rattle.source.specs.Memory.{tokensFrom, lexemeOf, lexemesFrom, held, lettersIn}
 use Rattle.source.specs.Program.{lookedUp, namesIn, Program, Stage, nothing, declarations, instructions, inOrder, refused, statement, Outcome, onLexed}
 use Rattle.source.proofs.Stored.{lexemes-each}
+use Rattle.source.proofs.Letters.{letters-few}
 use Rattle.tokens.specs.declared.Lexed.{Lexed as Lexing}
 use Rattle.tokens.specs.declared.Lexed.the-variants.{Tokens, Refused as Wrong, Unfit as NotFit}
 use Rattle.tokens.specs.Answers.{Told as ToldTokens, told as toldTokens, unfit as unfitTokens, lexedIn, lexedOf, Few as FewTokens}
@@ -336,12 +337,10 @@ module _ (q : Program) (k n : ℕ) (cells ks vs ws : List ℕ) (short : n ≤ 25
   by-tokens one = rw (← same) one
 
 -- the words of all tokens, where there is a place for each
-pub looked-up : {ms : List (List ℕ)} (q : Program) (n room : ℕ) (cells ks vs ws : List ℕ)
-    → tokensFrom 0 (min n room) ks ws ≡ map (lookedUp ms) (lexemesFrom 0 (min n room) cells ks vs) → n ≤ room → ms ≡ q .names
-    → tokensFrom 0 n ks ws ≡ map (lookedUp (q .names)) (lexemesFrom 0 n cells ks vs)
-looked-up q n room cells ks vs ws e h named =
-    let all : min n room ≡ n = omega (arith, h) in
-    (rw all at e) ∙ ap (λ ms. map (lookedUp ms) (lexemesFrom 0 n cells ks vs)) named
+pub looked-up : (ms : List (List ℕ)) (n room : ℕ) (cells ks vs ws : List ℕ)
+    → tokensFrom 0 (min n room) ks ws ≡ map (lookedUp ms) (lexemesFrom 0 (min n room) cells ks vs) → n ≤ room
+    → tokensFrom 0 n ks ws ≡ map (lookedUp ms) (lexemesFrom 0 n cells ks vs)
+looked-up ms n room cells ks vs ws e h = let all : min n room ≡ n = omega (arith, h) in (rw all at e)
 
 -- ---- a statement by its cells
 
@@ -374,6 +373,14 @@ module _ (s : Statement) where
 
       pub tokens-fit : {A : Type 0} → r ≡ NotFit → A
       tokens-fit z = let n : _≡_ {A = ℕ} 1 0 = ap toldCase (rw z at all-told) in absurd (omega arith)
+
+      -- the names of a statement have no more letters than it has cells
+      pub few-letters : (n : ℕ) → r ≡ Tokens n → lettersIn (namesIn (lexemesFrom 0 n (held s) ks vs)) ≤ s .length
+      few-letters n z =
+          let t : lexed (lexemesFrom 0 n (held s) ks vs) ≡ lexemes (held s) = ap lexedTold (rw z at all-told) in
+          let few = letters-few (held s) (lexemesFrom 0 n (held s) ks vs) (sym t) in
+          let l : length (held s) ≡ min (s .length) (length (s .cells)) = length-take (s .length) (s .cells) in
+          omega (arith, few, l)
 
       module _ (q : Program) (k : ℕ) {P : Program → Progress → Type 0} {G : Sheet → Type 0} where
         pub by-cells : (n : ℕ) {o : Step} → r ≡ Tokens n → Comes P G o (onLexed q k (lexed (lexemesFrom 0 n (held s) ks vs))) → Comes P G o (statement q k (held s))

@@ -21,6 +21,7 @@ ghost use lib.ListN.{length};
 ghost use Rattle.source.specs.Limits.{mostCells};
 ghost use Rattle.source.specs.Memory.{held};
 ghost use Rattle.grammar.specs.Answers.{Few};
+ghost use Rattle.front_end_forms.specs.Memory.{tableOf};
 ghost use Rattle.front_end_forms.specs.Answers.{FewCounts};
 ghost use Rattle.front_end_statement.specs.Answers.{OnStatement};
 ghost use Rattle.front_end_statement.specs.Internal.{Dispatches, OnTokens};
@@ -36,17 +37,18 @@ fn dispatch(
     words: &[u32],
     n: usize,
     own: &[u64],
-    names: &mut [u8],
+    letters: &mut [u8],
+    index: &mut [u32],
     labels: &mut [u32],
     groups: &mut [u64],
     fields: &mut [u64],
 ) -> Step
     requires { ⌜ FewCounts p × Few n form × (n ≤ mostCells) × (n ≤ length (now own)) ⌝ }
-    ensures { λ r. ⌜ Dispatches form p k n (now (cells .entry)) (now (tokens .entry)) (now (spelled .entry)) (now (words .entry)) (now (own .entry)) (now (names .entry)) (now (labels .entry)) (now (groups .entry)) (now (fields .entry)) r (now (names .exit)) (now (labels .exit)) (now (groups .exit)) (now (fields .exit)) ⌝ }
+    ensures { λ r. ⌜ Dispatches form p k n (now (cells .entry)) (now (tokens .entry)) (now (spelled .entry)) (now (words .entry)) (now (own .entry)) (tableOf (now (letters .entry)) (now (index .entry))) (now (labels .entry)) (now (groups .entry)) (now (fields .entry)) r (tableOf (now (letters .exit)) (now (index .exit))) (now (labels .exit)) (now (groups .exit)) (now (fields .exit)) ⌝ }
 {
     match form {
         Form::Begin => begin(p, k),
-        Form::Declaration => declaration(p, k, cells, tokens, spelled, n, names),
+        Form::Declaration => declaration(p, k, cells, tokens, spelled, n, letters, index),
         Form::End => conclude(p, k, labels, groups, fields),
         Form::Labels(c) => label(p, k, tokens, words, c, labels),
         Form::Instruction(c, m) => {
@@ -72,16 +74,26 @@ fn on_tokens(
     tokens: &[u8],
     spelled: &[u32],
     n: usize,
-    names: &mut [u8],
+    letters: &mut [u8],
+    index: &mut [u32],
     labels: &mut [u32],
     groups: &mut [u64],
     fields: &mut [u64],
 ) -> Step
     requires { ⌜ FewCounts p × (n ≤ mostCells) ⌝ }
-    ensures { λ r. ⌜ OnTokens p k n (now (cells .entry)) (now (tokens .entry)) (now (spelled .entry)) (now (names .entry)) (now (labels .entry)) (now (groups .entry)) (now (fields .entry)) r (now (names .exit)) (now (labels .exit)) (now (groups .exit)) (now (fields .exit)) ⌝ }
+    ensures { λ r. ⌜ OnTokens p k n (now (cells .entry)) (now (tokens .entry)) (now (spelled .entry)) (tableOf (now (letters .entry)) (now (index .entry))) (now (labels .entry)) (now (groups .entry)) (now (fields .entry)) r (tableOf (now (letters .exit)) (now (index .exit))) (now (labels .exit)) (now (groups .exit)) (now (fields .exit)) ⌝ }
 {
     let mut words = [0u32; MOST_CELLS];
-    look_up(cells, tokens, spelled, n, names, p.names, &mut words);
+    look_up(
+        cells,
+        tokens,
+        spelled,
+        n,
+        letters,
+        index,
+        p.names,
+        &mut words,
+    );
     let mut own = [0u64; MOST_CELLS];
     let form = form_of(tokens, &words, n, &mut own);
     dispatch(
@@ -94,7 +106,8 @@ fn on_tokens(
         &words,
         n,
         &own,
-        names,
+        letters,
+        index,
         labels,
         groups,
         fields,
@@ -106,13 +119,14 @@ pub fn statement(
     s: Statement,
     p: Progress,
     k: u32,
-    names: &mut [u8],
+    letters: &mut [u8],
+    index: &mut [u32],
     labels: &mut [u32],
     groups: &mut [u64],
     fields: &mut [u64],
 ) -> Step
     requires { ⌜ FewCounts p ⌝ }
-    ensures { λ r. ⌜ OnStatement p k (s .length) (held s) (now (names .entry)) (now (labels .entry)) (now (groups .entry)) (now (fields .entry)) r (now (names .exit)) (now (labels .exit)) (now (groups .exit)) (now (fields .exit)) ⌝ }
+    ensures { λ r. ⌜ OnStatement p k (s .length) (held s) (tableOf (now (letters .entry)) (now (index .entry))) (now (labels .entry)) (now (groups .entry)) (now (fields .entry)) r (tableOf (now (letters .exit)) (now (index .exit))) (now (labels .exit)) (now (groups .exit)) (now (fields .exit)) ⌝ }
 {
     let length = s.length;
     let mut found = [0u8; MOST_CELLS];
@@ -125,7 +139,8 @@ pub fn statement(
             &found,
             &spelled,
             n,
-            names,
+            letters,
+            index,
             labels,
             groups,
             fields,

@@ -1,2 +1,2 @@
-pub mod NameTable
-pub mod NameTurns
+pub mod Lookups
+pub mod Declarations

@@ -1,37 +1,51 @@
--- What a declaration does to the names of a program. Comments in quotes are document 01's words.
-use Prim.Native.Nat.{ℕ, _+_, _*_}
+-- What looking up and declaring do, stated of all names that the arrays hold. Comments in quotes are document 01's words.
+use Prim.Native.Nat.{ℕ, _+_}
 use mathlib.Core.Bool.{Bool, false}
-use mathlib.Core.List.{List, _++_}
-use lib.Dec.{leb, eqb}
+use mathlib.Core.Path.{_≡_}
+use mathlib.Core.List.{List, [], _∷_, _++_, map}
+use lib.Dec.{ltb, leb, eqb}
 use lib.ListN.{length}
 use Rattle.base.specs.Choice.{pick}
-use Rattle.source.specs.Limits.{mostCells}
-use Rattle.source.specs.Memory.{tableRows}
-use Rattle.source.specs.Program.{canDeclare}
+use Rattle.source.specs.Limits.{mostBytes}
+use Rattle.source.specs.Memory.{tableRows, lettersIn, tokensFrom, lexemesFrom}
+use Rattle.source.specs.Program.{wordOf, lookedUp}
+use Rattle.name_index.specs.Memory.{NamesHeld}
 use Rattle.names.specs.declared.Declared.{Declared}
-use Rattle.names.specs.declared.Declared.the-variants.{Names as Declares, Refused, Unfit}
-use Rattle.names.specs.Memory.{namesOf}
+use Rattle.names.specs.declared.Declared.the-variants.{Names as Declaring, Refused, Unfit}
 
--- the names after a declaration; document 01's number of the refusal; or that the table is not fit for them
+-- ---- looking up
+
+-- the first n tokens, with their names looked up
+abbrev pub LooksUp : ℕ → List ℕ → List ℕ → List ℕ → ℕ → List ℕ → List ℕ → List ℕ → Type 0
+LooksUp n cells kinds values v letters index words =
+    (ns : List (List ℕ)) (filled : ℕ)
+    → NamesHeld ns v filled letters index
+    → tokensFrom 0 n kinds words ≡ map (lookedUp ns) (lexemesFrom 0 n cells kinds values)
+
+-- ---- declaring
+
+-- the names after a declaration; document 01's number of the refusal; or that there is no room for them
 pub data Names : Type 0 where
   names : List (List ℕ) → Names
   refusal : ℕ → Names
   unfit : Names
 
--- 8 "name unknown, declared twice, or SEND misused"
-abbrev pub declaredIn : Declared → List ℕ → Names
-declaredIn (Declares v) l = names (namesOf v l)
-declaredIn Refused l = refusal 8
-declaredIn Unfit l = unfit
+-- whether there is room for a name behind others
+abbrev pub hasRoom : List (List ℕ) → List ℕ → Bool
+hasRoom ms n = pick (ltb (length ms) tableRows) (leb (lettersIn ms + length n) mostBytes) false
 
--- the names ns declared behind ms
-abbrev pub declaredAll : List (List ℕ) → List (List ℕ) → Names
-declaredAll ms ns = pick (canDeclare ms ns) (names (ms ++ ns)) (refusal 8)
+-- the names ns declared behind ms, one after the other. 8 "name unknown, declared twice, or SEND misused"
+unfoldable pub declaredOf : List (List ℕ) → List (List ℕ) → Names
+declaredOf ms [] = names ms
+declaredOf ms (n ∷ ns) =
+    pick (eqb (wordOf ms n) 0) (pick (hasRoom ms n) (declaredOf (ms ++ n ∷ []) ns) unfit) (refusal 8)
 
--- whether a table of so many bytes has its rows, and they are enough for so many names
-abbrev pub fit : ℕ → ℕ → Bool
-fit size many = pick (eqb size (tableRows * mostCells)) (leb many tableRows) false
+-- an answer, and what it stands for
+pub data Tells (letters index : List ℕ) : Declared → Names → Type 0 where
+  declares : (ms : List (List ℕ)) (v filled : ℕ) → NamesHeld ms v filled letters index → Tells letters index (Declaring v filled) (names ms)
+  refuses : Tells letters index Refused (refusal 8)
+  no-room : Tells letters index Unfit unfit
 
--- what a declaration of the names ns does behind the v names of a table
-unfoldable pub declaredOf : ℕ → List ℕ → List (List ℕ) → Names
-declaredOf v l ns = pick (fit (length l) (v + length ns)) (declaredAll (namesOf v l) ns) unfit
+abbrev pub Declares : List (List ℕ) → ℕ → ℕ → List ℕ → List ℕ → Declared → List ℕ → List ℕ → Type 0
+Declares ns v filled before-letters before-index r letters index =
+    (ms : List (List ℕ)) → NamesHeld ms v filled before-letters before-index → Tells letters index r (declaredOf ms ns)

@@ -1,34 +1,42 @@
--- What the private functions compute.
-use Prim.Native.Nat.{ℕ, zero, suc, _+_, _*_, _%_, _≤_}
-use mathlib.Core.List.{List}
+-- What the private functions do.
+use Prim.Native.Nat.{ℕ, _-_}
 use mathlib.Core.Path.{_≡_}
-use lib.Dec.{eqb}
-use lib.ListN.{length, getD, set}
-use lib.Seq.{sets}
-use Rattle.base.specs.Choice.{pick}
-use Rattle.source.specs.Limits.{mostCells}
-use Rattle.source.specs.Memory.{tableRows}
-use Rattle.names.specs.declared.Declared.{Declared}
-use Rattle.names.specs.Memory.{namesOf}
-use Rattle.names.specs.Answers.{declaredIn, declaredAll}
+use mathlib.Core.List.{List}
+use lib.ListN.{getD}
+use Rattle.base.specs.Places.{each}
+use Rattle.source.specs.Tokens.{Lexeme}
+use Rattle.source.specs.Memory.{tokenOf, lexemeOf, lexemesFrom}
+use Rattle.source.specs.Program.{wordOf, lookedUp, namesIn}
+use Rattle.name_index.specs.Memory.{NamesHeld}
+use Rattle.names.specs.Answers.{declaredOf}
 
--- the array with a name put at place v
-abbrev pub stored : List ℕ → ℕ → List ℕ → List ℕ
-stored l v n = sets (set l (v * 256 + 255) (length n % 256)) (v * 256) n
+-- the word of any name
+abbrev pub FindsAny : List ℕ → ℕ → List ℕ → List ℕ → ℕ → Type 0
+FindsAny name v letters index w =
+    (ns : List (List ℕ)) (filled : ℕ) → NamesHeld ns v filled letters index → w ≡ wordOf ns name
 
--- how many of the n tokens from place k on are names
-abbrev pub oneIfName : ℕ → ℕ
-oneIfName kind = pick (eqb kind 0) 1 0
+-- what a token carries once its name is looked up
+abbrev pub Sees : Lexeme → ℕ → ℕ → List ℕ → List ℕ → ℕ → Type 0
+Sees x kind v letters index w =
+    (ns : List (List ℕ)) (filled : ℕ) → NamesHeld ns v filled letters index → tokenOf kind w ≡ lookedUp ns x
 
-unfoldable pub namesAmong : ℕ → ℕ → List ℕ → ℕ
-namesAmong k zero ks = 0
-namesAmong k (suc n) ks = oneIfName (getD ks k 0) + namesAmong (suc k) n ks
+-- the tokens before place i, with their names looked up
+abbrev pub LookedUp : ℕ → List ℕ → List ℕ → List ℕ → ℕ → List ℕ → List ℕ → List ℕ → Type 0
+LookedUp i cells kinds values v letters index words =
+    (ns : List (List ℕ)) (filled : ℕ)
+    → NamesHeld ns v filled letters index
+    → each (λ j. tokenOf (getD kinds j 0) (getD words j 0)) 0 i
+    ≡ each (λ j. lookedUp ns (lexemeOf cells (getD kinds j 0) (getD values j 0))) 0 i
 
--- what a declaration of the names ns does, where there is room for them
-pub record Declaring (before : List ℕ) (v : ℕ) (ns : List (List ℕ)) (r : Declared) (after : List ℕ) : Type 0 where
-  pub told : declaredIn r after ≡ declaredAll (namesOf v before) ns
-  pub kept : length after ≡ length before
+-- some names are declared behind ms, and ns are left, of all
+pub record SoFar (ms all : List (List ℕ)) (ns : List (List ℕ)) (v filled : ℕ) (letters index : List ℕ) : Type 0 where
+  pub names-too : List (List ℕ)
+  pub held : NamesHeld names-too v filled letters index
+  pub same : declaredOf names-too ns ≡ declaredOf ms all
 
-abbrev pub DeclaresAll : List ℕ → ℕ → List (List ℕ) → Declared → List ℕ → Type 0
-DeclaresAll before v ns r after =
-    length before ≡ tableRows * mostCells → v + length ns ≤ tableRows → Declaring before v ns r after
+-- the names among the tokens before place i are declared, of n tokens
+abbrev pub Going : ℕ → ℕ → List ℕ → List ℕ → List ℕ → ℕ → ℕ → List ℕ → List ℕ → ℕ → ℕ → List ℕ → List ℕ → Type 0
+Going i n cells kinds values v filled before-letters before-index count many letters index =
+    (ms : List (List ℕ))
+    → NamesHeld ms v filled before-letters before-index
+    → SoFar ms (namesIn (lexemesFrom 0 n cells kinds values)) (namesIn (each (λ j. lexemeOf cells (getD kinds j 0) (getD values j 0)) i (n - i))) count many letters index

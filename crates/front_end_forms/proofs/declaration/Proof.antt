@@ -4,19 +4,19 @@ use Rattle.front_end_forms.proofs.declaration.Statement.{statement}
 use Rattle.front_end_forms.proofs.declaration.Tie as tie
 
 returns : tie.Need-returns
-returns c = λ q ls gs fs h few. declared-elsewhere h (c .before .before .before .before .before .before .args .k) _ (c .if1 .taken) _
+returns c = λ q ls gs fs h few room. declared-elsewhere h (c .before .before .before .before .before .before .before .args .k) _ (c .if1 .taken) _
 
 returns-2 : tie.Need-returns-2
-returns-2 c = λ q ls gs fs h few. comes-many h (c .before .before .before .before .before .before .before .before .before .before .before .before .before .before .args .k) _ (c .before .before .before .before .before .before .before .before .if1 .left) few _ _ (c .before .before .before .before .before .before .declare .ensures .0) (c .before .before .before .before .before .before .declare .ensures .1) _ (c .before .before .v .given .1) (c .if2 .taken)
+returns-2 c = λ q ls gs fs h few room. comes-many h (c .before .before .before .before .before .before .before .before .before .before .before .before .before .before .before .before .before .before .args .k) _ (c .before .before .before .before .before .before .before .before .before .before .before .if1 .left) few room _ _ (c .before .before .before .before .before .before .before .before .declare .ensures) _ _ (c .before .before .v .given .1) (c .if2 .taken)
 
 returns-3 : tie.Need-returns-3
-returns-3 c = λ q ls gs fs h few. comes-declared h (c .before .before .before .before .before .before .before .before .before .before .before .before .before .before .args .k) _ (c .before .before .before .before .before .before .before .before .if1 .left) few _ _ (c .before .before .before .before .before .before .declare .ensures .0) (c .before .before .before .before .before .before .declare .ensures .1) _ (c .before .before .v .given .1) (c .if2 .left)
+returns-3 c = λ q ls gs fs h few room. comes-declared h (c .before .before .before .before .before .before .before .before .before .before .before .before .before .before .before .before .before .before .args .k) _ (c .before .before .before .before .before .before .before .before .before .before .before .if1 .left) few room _ _ (c .before .before .before .before .before .before .before .before .declare .ensures) _ _ (c .before .before .v .given .1) (c .if2 .left)
 
 returns-4 : tie.Need-returns-4
-returns-4 c = λ q ls gs fs h few. comes-twice h (c .before .before .before .before .before .before .before .before .before .before .before .before .args .k) _ (c .before .before .before .before .before .before .if1 .left) few _ _ (c .before .before .before .before .declare .ensures .0) (c .before .before .before .before .declare .ensures .1) (c .enum-told .given .1)
+returns-4 c = λ q ls gs fs h few room. comes-twice h (c .before .before .before .before .before .before .before .before .before .before .before .before .before .before .before .before .args .k) _ (c .before .before .before .before .before .before .before .before .before .if1 .left) few room _ _ (c .before .before .before .before .before .before .declare .ensures) (c .enum-told .given .1)
 
 returns-5 : tie.Need-returns-5
-returns-5 c = λ q ls gs fs h few. declared-fits h (c .before .before .before .before .before .before .before .before .before .before .before .before .args .k) _ (c .before .before .before .before .before .before .if1 .left) few _ _ (c .before .before .before .before .declare .ensures .0) (c .before .before .before .before .declare .ensures .1) (c .enum-told2 .given .1)
+returns-5 c = λ q ls gs fs h few room. declared-fits h (c .before .before .before .before .before .before .before .before .before .before .before .before .before .before .before .before .args .k) _ (c .before .before .before .before .before .before .before .before .before .if1 .left) few room _ _ (c .before .before .before .before .before .before .declare .ensures) (c .enum-told2 .given .1)
 
 pub declaration-spec : {M : Type 1} → statement M
 declaration-spec =
@@ -27,12 +27,16 @@ declaration-spec =
     (λ c. search needs)
     (λ c. search needs)
     (λ c. search needs)
+    (λ c. search needs)
     returns-2
+    (λ c. search needs)
     (λ c. search needs)
     (λ c. search needs)
     (λ c. search needs)
     returns-3
     (λ c. search needs)
+    (λ c. search needs)
     returns-4
+    (λ c. search needs)
     (λ c. search needs)
     returns-5)

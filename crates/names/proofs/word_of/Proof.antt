@@ -1,19 +1,13 @@
-use mathlib.Core.Path.{refl, sym, _∙_}
-use Rattle.base.specs.Text.{bytes}
-use Rattle.base.proofs.Cases.{pick-yes, pick-no}
 use borrow.Author.Needs.{needs}
+use Rattle.names.proofs.Lookups.{send-word, other-word}
 use Rattle.names.proofs.word_of.Statement.{statement}
 use Rattle.names.proofs.word_of.Tie as tie
 
 returns : tie.Need-returns
-unfolding bytes
-returns c = pick-yes _ _ _ _ (sym (c .before .same-name .ensures) ∙ c .if1 .taken) refl
+returns c = let a = c .before .before .before .before .before .args in λ ns filled held. send-word ns (a .name .now) _ (c .before .is-send .ensures) (c .if1 .taken)
 
 returns-2 : tie.Need-returns-2
-unfolding bytes
-returns-2 c = pick-no _ _ _ _ (sym (c .before .before .same-name .ensures) ∙ c .before .if1 .left) (c .find .ensures)
+returns-2 c = let a = c .before .before .before .before .before .before .args in λ ns filled held. other-word ns (a .name .now) _ (c .before .before .is-send .ensures) _ (c .before .if1 .left) (c .find .ensures .1 .1 ns filled held)
 
 pub word-of-spec : {M : Type 1} → statement M
-word-of-spec =
-    tie.close
-    (tie.spec (λ c. search needs) (λ c κs. search needs) returns (λ c κs. search needs) returns-2)
+word-of-spec = tie.close (tie.spec (λ c κs. search needs) returns (λ c κs. search needs) returns-2)

@@ -1,0 +1,4 @@
+pub mod Order
+pub mod Memory
+pub mod Answers
+pub mod Internal
