@@ -75,14 +75,14 @@ enum skimp_run_number {
 #define SKIMP_SHEET_MOST 32768
 
 /* The stack that a call needs: its own frame and all below it. These numbers are not proved but measured, on the inputs found
- * to need most and the archive built for x86-64, with a twentieth more at least and in whole KiB. Each is under 96 KiB. Compile
- * needs most, some 89,000 bytes, and read-back, some 50,000, for an expression of many temporaries inside groups; a run needs
+ * to need most and the archive built for x86-64, with a twentieth more at least and in whole KiB. Each is under 64 KiB. Compile
+ * needs most, some 57,000 bytes, and read-back, some 50,000, for an expression of many temporaries inside groups; a run needs
  * some 9,200 bytes whatever the object. A task that makes a call must have a stack of as many bytes to spare. */
-#define SKIMP_COMPILE_STACK_BYTES 94208
+#define SKIMP_COMPILE_STACK_BYTES 60416
 #define SKIMP_READ_BACK_STACK_BYTES 55296
 #define SKIMP_RUN_STACK_BYTES 10240
 /* enough for every call */
-#define SKIMP_STACK_BYTES 94208
+#define SKIMP_STACK_BYTES 60416
 
 /* Compiles a source: writes the text of its object into the front of `object`.
  *

@@ -43,6 +43,15 @@ as-asked v n few d h =
     let some = power-some d in
     few (7 + d) (rw (pow-add 2 7 d) (omega (arith, h, some)))
 
+-- the bound is met: among 2^d names, each of which the sought one stands before
+pub bound-met : (word : ℕ → ℕ) (d : ℕ) → Searches (λ i. Before) word 0 (2 ^ d) 0 0 (suc d)
+bound-met word zero = first-half 0 1 (omega arith) refl (nowhere 0)
+bound-met word (suc d) =
+    let some = power-some (suc d) in
+    let half : 2 ^ suc d / 2 ≡ 2 ^ d = rw (pow-suc 2 d) (omega arith) in
+    let rest : Searches (λ i. Before) word 0 (2 ^ suc d / 2) 0 0 (suc d) = rw half (bound-met word d) in
+    first-half 0 (2 ^ suc d) some refl rest
+
 -- ---- the turns of the loop
 
 -- a search of what is left goes on to one of all, behind the comparisons made so far

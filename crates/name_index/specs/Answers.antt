@@ -34,12 +34,12 @@ pub data Searches (side : ℕ → Side) (word : ℕ → ℕ) : ℕ → ℕ → �
   second-half : (from left : ℕ) {w place n : ℕ} → 0 < left → side (from + left / 2) ≡ After
       → Searches side word (from + (left / 2 + 1)) (left - (left / 2 + 1)) w place n → Searches side word from left w place (suc n)
 
--- the word found is the one of before: that of the first of the names
+-- the word found is that of the first of the names that is the same, 0 where none is
 abbrev pub FindsWord : List ℕ → ℕ → List ℕ → List ℕ → ℕ → Type 0
 FindsWord name v letters index w =
     (ns : List (List ℕ)) (filled : ℕ) → NamesHeld ns v filled letters index → w ≡ wordFrom 2 ns name
 
--- the bound of the comparisons among v names: d are enough for fewer than 2^d
+-- the bound of the comparisons among v names: d of them are enough for fewer than 2^d
 abbrev pub FewComparisons : ℕ → ℕ → Type 0
 FewComparisons v n = (d : ℕ) → v < 2 ^ d → n ≤ d
 

@@ -87,8 +87,8 @@ fn by_letters(a: &[u8], b: &[u8]) -> Side
     letter_side(a[k], b[k])
 }
 
-// Compares the name a with the name b, which is short as any in memory. Most names that differ have other lengths or other last
-// letters: these are compared first.
+// Compares the name a with the name b, which has fewer than 256 letters, as every name in memory. Most names that differ have other
+// lengths or other last letters: these are compared first.
 pub fn compare(a: &[u8], b: &[u8]) -> Side
     requires { ⌜ length (now b) < 256 ⌝ }
     ensures { λ r. ⌜ r ≡ sideOf (now (a .entry)) (now (b .entry)) ⌝ }

@@ -25,7 +25,7 @@ use Rattle.name_index.specs.Answers.{HasRoom, AddedTo}
 use Rattle.names.specs.declared.Declared.{Declared}
 use Rattle.names.specs.declared.Declared.the-variants.{Names as Declaring, Refused, Unfit}
 use Rattle.names.specs.Answers.{Names, names, refusal, unfit, hasRoom, declaredOf, Tells, declares, refuses, no-room}
-use Rattle.names.specs.Internal.{SoFar}
+use Rattle.names.specs.Internal.{NamesSoFar}
 
 -- ---- one name
 
@@ -121,12 +121,12 @@ says refuses = refl
 says no-room = refl
 
 module _ (f : ℕ → Lexeme) (n i : ℕ) (h : i < n) {ms all : List (List ℕ)} {v filled : ℕ} {letters index after-letters after-index : List ℕ}
-    (so-far : SoFar ms all (namesIn (each f i (n - i))) v filled letters index) {r : Declared}
+    (so-far : NamesSoFar ms all (namesIn (each f i (n - i))) v filled letters index) {r : Declared}
     (one : Tells after-letters after-index r (declaredOf (so-far .names-too) (namesIn (f i ∷ [])))) where
   on : declaredOf (so-far .names-too) (namesIn (each f i (n - i))) ≡ onNames (declaredOf (so-far .names-too) (namesIn (f i ∷ []))) (λ m. declaredOf m (namesIn (each f (i + 1) (n - (i + 1)))))
   on = ap (λ xs. declaredOf (so-far .names-too) (namesIn xs)) (each-more f i n h) ∙ declared-on (so-far .names-too) (f i) (each f (i + 1) (n - (i + 1)))
 
-  pub declare-turn : (c m : ℕ) → r ≡ Declaring c m → SoFar ms all (namesIn (each f (i + 1) (n - (i + 1)))) c m after-letters after-index
+  pub declare-turn : (c m : ℕ) → r ≡ Declaring c m → NamesSoFar ms all (namesIn (each f (i + 1) (n - (i + 1)))) c m after-letters after-index
   declare-turn c m e =
       let s = says (rw e at one) in record {
         names-too = s .0;
@@ -145,7 +145,7 @@ module _ (f : ℕ → Lexeme) (n i : ℕ) (h : i < n) {ms all : List (List ℕ)}
       rw (← so-far .same, on ∙ ap (λ o. onNames o (λ k. declaredOf k (namesIn (each f (i + 1) (n - (i + 1)))))) s) no-room
 
 pub declare-start : {ms : List (List ℕ)} {v filled : ℕ} {letters index : List ℕ} (cells ks vs : List ℕ) (n : ℕ) → NamesHeld ms v filled letters index
-    → SoFar ms (namesIn (lexemesFrom 0 n cells ks vs)) (namesIn (each (λ i. lexemeOf cells (getD ks i 0) (getD vs i 0)) 0 (n - 0))) v filled letters index
+    → NamesSoFar ms (namesIn (lexemesFrom 0 n cells ks vs)) (namesIn (each (λ i. lexemeOf cells (getD ks i 0) (getD vs i 0)) 0 (n - 0))) v filled letters index
 declare-start {ms} cells ks vs n h = record {
   names-too = ms;
   held = h;
@@ -153,7 +153,7 @@ declare-start {ms} cells ks vs n h = record {
 }
 
 pub declare-end : {ms all : List (List ℕ)} {v filled : ℕ} {letters index : List ℕ} (f : ℕ → Lexeme) (n i : ℕ) → n ≤ i
-    → SoFar ms all (namesIn (each f i (n - i))) v filled letters index → Tells letters index (Declaring v filled) (declaredOf ms all)
+    → NamesSoFar ms all (namesIn (each f i (n - i))) v filled letters index → Tells letters index (Declaring v filled) (declaredOf ms all)
 unfolding declaredOf namesIn
 declare-end {v = v} {filled = filled} f n i h s =
     let none : names (s .names-too) ≡ declaredOf (s .names-too) (namesIn (each f i (n - i))) = rw (each-over f i n h) refl in

@@ -29,14 +29,14 @@ LookedUp i cells kinds values v letters index words =
     ≡ each (λ j. lookedUp ns (lexemeOf cells (getD kinds j 0) (getD values j 0))) 0 i
 
 -- some names are declared behind ms, and ns are left, of all
-pub record SoFar (ms all : List (List ℕ)) (ns : List (List ℕ)) (v filled : ℕ) (letters index : List ℕ) : Type 0 where
+pub record NamesSoFar (ms all : List (List ℕ)) (ns : List (List ℕ)) (v filled : ℕ) (letters index : List ℕ) : Type 0 where
   pub names-too : List (List ℕ)
   pub held : NamesHeld names-too v filled letters index
   pub same : declaredOf names-too ns ≡ declaredOf ms all
 
 -- the names among the tokens before place i are declared, of n tokens
-abbrev pub Going : ℕ → ℕ → List ℕ → List ℕ → List ℕ → ℕ → ℕ → List ℕ → List ℕ → ℕ → ℕ → List ℕ → List ℕ → Type 0
-Going i n cells kinds values v filled before-letters before-index count many letters index =
+abbrev pub DeclaresOn : ℕ → ℕ → List ℕ → List ℕ → List ℕ → ℕ → ℕ → List ℕ → List ℕ → ℕ → ℕ → List ℕ → List ℕ → Type 0
+DeclaresOn i n cells kinds values v filled before-letters before-index count many letters index =
     (ms : List (List ℕ))
     → NamesHeld ms v filled before-letters before-index
-    → SoFar ms (namesIn (lexemesFrom 0 n cells kinds values)) (namesIn (each (λ j. lexemeOf cells (getD kinds j 0) (getD values j 0)) i (n - i))) count many letters index
+    → NamesSoFar ms (namesIn (lexemesFrom 0 n cells kinds values)) (namesIn (each (λ j. lexemeOf cells (getD kinds j 0) (getD values j 0)) i (n - i))) count many letters index

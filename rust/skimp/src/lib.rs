@@ -47,7 +47,7 @@ pub const OBJECT_MOST: usize = 18_469;
 pub const SHEET_MOST: usize = 32_768;
 
 /// A stack of so many bytes is enough for a call, as measured on its worst inputs, with a twentieth more at least.
-pub const COMPILE_STACK_BYTES: usize = 92 * 1024;
+pub const COMPILE_STACK_BYTES: usize = 59 * 1024;
 pub const READ_BACK_STACK_BYTES: usize = 54 * 1024;
 pub const RUN_STACK_BYTES: usize = 10 * 1024;
 /// A stack of so many bytes is enough for every call.

@@ -5,14 +5,14 @@ use mathlib.Core.List.{[], _∷_}
 use native.Mathlib.Omega.{arith}
 use lib.ListN.{length}
 use Rattle.source.specs.Memory.{lexemeOf}
-use Rattle.names.specs.Internal.{Going}
+use Rattle.names.specs.Internal.{DeclaresOn}
 use Rattle.names.proofs.Lookups.{lexemeIn}
 use Rattle.names.proofs.Declarations.{declare-start, declare-turn, declare-fails, declare-unfit, declare-end}
 use Rattle.names.proofs.declare.Statement.{statement}
 use Rattle.names.proofs.declare.Tie as tie
 
 abbrev Inv-loop : tie.InvT-loop
-Inv-loop cells kinds values n letters₀ index₀ v filled i₀ count₀ many₀ letters index i count many = (length letters ≡ length letters₀) × (length index ≡ length index₀) × Going i n cells kinds values v filled letters₀ index₀ count many letters index
+Inv-loop cells kinds values n letters₀ index₀ v filled i₀ count₀ many₀ letters index i count many = (length letters ≡ length letters₀) × (length index ≡ length index₀) × DeclaresOn i n cells kinds values v filled letters₀ index₀ count many letters index
 
 abbrev μ-loop : tie.MeasureT-loop
 μ-loop cells kinds values n letters₀ index₀ v filled i₀ count₀ many₀ letters index i count many = n - i

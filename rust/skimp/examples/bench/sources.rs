@@ -23,9 +23,10 @@ pub fn all() -> Vec<Input> {
         Input::new("empty", program("", "")),
         Input::new("60 long names", long_names(names(200))),
         Input::new("60 long names, heads", long_names(headed_names(200))),
-        Input::new("like names", like_names(30, 1)),
-        Input::new("short names", like_names(2, 1)),
-        Input::new("64 short names", like_names(2, MOST_VARIABLES)),
+        Input::new("like names", like_names(names(30), 1)),
+        Input::new("names alike at ends", like_names(middle_names(14), 1)),
+        Input::new("short names", like_names(names(2), 1)),
+        Input::new("64 short names", like_names(names(2), MOST_VARIABLES)),
         random(),
         Input::new("assignments", with_a(&"A=A\n".repeat(MOST_ORDERS / 2))),
         Input::new("jumps", jumps()),
@@ -72,6 +73,13 @@ fn headed_names(letters: usize) -> Vec<String> {
     short_names().map(|head| head + &rest).collect()
 }
 
+/// The same, but they differ in two letters in the middle only.
+fn middle_names(letters: usize) -> Vec<String> {
+    let half = "N".repeat(letters / 2 - 1);
+    let middle = |two: String| format!("{half}{two}{half}");
+    short_names().map(middle).collect()
+}
+
 /// Their declarations, as few statements as there may be.
 fn declarations(names: &[String]) -> String {
     // each name has a comma behind it but the last
@@ -102,10 +110,10 @@ fn padded(source: String) -> String {
     format!("{source}!{}", "*".repeat(room))
 }
 
-/// Names of so many letters. The last of them, so many, are used one after the other, over and over,
-/// up to the most bytes or orders.
-fn like_names(letters: usize, used: usize) -> String {
-    let names = names(letters);
+/// Names of one length. The last of them, so many, are used one after the other, over and over, up to
+/// the most bytes or orders.
+fn like_names(names: Vec<String>, used: usize) -> String {
+    let letters = names[0].len();
     let lists = declarations(&names);
     let mut turn = names[MOST_VARIABLES - used..].iter().cycle();
     // no program has this: it stands for a name until all statements are there

@@ -14,7 +14,7 @@ use region::Region;
 const SEGMENTATION_FAULT: i32 = 11;
 
 /// Each call needs less.
-const MOST_BYTES: usize = 96 * 1024;
+const MOST_BYTES: usize = 64 * 1024;
 
 /// Names the call and the bytes of stack in the environment of the process that tries them.
 const CALL: &str = "SKIMP_STACK_CALL";
