@@ -2,5 +2,6 @@
 
 mod exhaustive;
 mod limits;
+mod names;
 mod random_sources;
 mod rooms;
