@@ -1,28 +1,24 @@
 -- A name added to those that stand in memory.
-use Prim.Native.Nat.{ℕ, zero, suc, _+_, _-_, _*_, _/_, _%_, _<_, _≤_, min}
+use Prim.Native.Nat.{ℕ, suc, _+_, _-_, _*_, _/_, _%_, _<_, _≤_}
+use mathlib.Core.Bool.{true, false}
 use mathlib.Core.Path.{_≡_, refl, sym, ap, ap₂, _∙_}
-use mathlib.Core.List.{List, [], _∷_, _++_, append-assoc}
+use mathlib.Core.List.{List, [], _∷_, _++_, append-nil, append-assoc}
 use native.Mathlib.Omega.{arith}
-use lib.ListN.{length, getD, take, drop, set, length-drop, length-append, take-append-drop, drop-of-length-le, length-take, List·getD-append}
-use lib.Seq.{sets, sets-eq, length-sets, take-at, drop-at, take-append-le, drop-append-le, length-take-le, getD-set-same, getD-set-other, getD-append-seam, take-set-le}
-use Rattle.base.proofs.Cases.{by-less, by-equal}
-use Rattle.base.proofs.Lists.{drop-more}
+use borrow.Author.Tests.{lt-ltb, le-ltb, le-leb, lt-leb}
+use lib.Dec.{ltb}
+use lib.ListN.{length, getD, take, drop, set, length-drop, length-append, take-append-drop, drop-of-length-le, List·getD-append}
+use lib.Seq.{sets, take-all, take-length, drop-drop, sets-eq, length-sets, take-at, drop-at, take-append-le, drop-append-le, length-take-le, getD-set-same, getD-set-other, getD-append-seam, take-set-le}
+use Rattle.base.specs.Choice.{pick}
+use Rattle.base.proofs.Cases.{by-test, by-less, by-equal}
 use Rattle.source.specs.Limits.{mostBytes}
 use Rattle.source.specs.Memory.{tableRows, lettersIn}
 use Rattle.source.proofs.Letters.{letters-append}
 use Rattle.name_index.specs.declared.Side.the-variants.{Before}
 use Rattle.name_index.specs.Order.{sideOf}
 use Rattle.name_index.specs.Memory.{nameIn, nameAt, RowOf, Indexed, NamesHeld}
-use Rattle.name_index.specs.Answers.{Fits}
+use Rattle.name_index.specs.Answers.{Fits, hasRoom}
 use Rattle.name_index.specs.Internal.{Inserted, Shifted}
 use Rattle.name_index.proofs.Order.{after-before}
-
--- ---- a name is short
-
-pub short-part : (l p : List ℕ) (at n : ℕ) → p ≡ take (n % 256) (drop at l) → length p < 256
-short-part l p at n e =
-    let m : length p ≡ min (n % 256) (length (drop at l)) = ap length e ∙ length-take (n % 256) (drop at l) in
-    omega (arith, m)
 
 -- ---- no names
 
@@ -37,6 +33,33 @@ none-held whole rows-whole = record {
   room-for-letters = whole;
   room-for-rows = rows-whole;
 }
+
+-- ---- room for a name
+
+module _ {ns : List (List ℕ)} {v filled : ℕ} {letters index : List ℕ} (held : NamesHeld ns v filled letters index) (name : List ℕ) where
+  abbrev its-count : v ≡ length ns
+  its-count = held .counted
+
+  abbrev its-letters : filled ≡ lettersIn ns
+  its-letters = held .lettered
+
+  pub some-room : v < tableRows → filled + length name ≤ mostBytes → hasRoom ns name ≡ true
+  unfolding pick
+  some-room rows room =
+      let c = its-count in
+      let l = its-letters in
+      rw (lt-ltb (length ns) tableRows (omega (arith, c, rows)), le-leb (lettersIn ns + length name) mostBytes (omega (arith, l, room))) refl
+
+  pub no-row : tableRows ≤ v → hasRoom ns name ≡ false
+  unfolding pick
+  no-row full = let c = its-count in rw (le-ltb (length ns) tableRows (omega (arith, c, full))) refl
+
+  pub no-letters : mostBytes < filled + length name → hasRoom ns name ≡ false
+  unfolding pick
+  no-letters full =
+      let l = its-letters in
+      rw (lt-leb (lettersIn ns + length name) mostBytes (omega (arith, l, full)))
+      (by-test (ltb (length ns) tableRows) (λ t. rw t refl) (λ t. rw t refl))
 
 -- ---- rows moved by one
 
@@ -64,11 +87,20 @@ module _ {v place i : ℕ} {index after : List ℕ} (s : Shifted v place i index
 
 -- ---- letters put behind others
 
-pub store-turn : (l n : List ℕ) (s i : ℕ) → i < length n → sets (set l (s + i) (getD n i 0)) (s + (i + 1)) (drop (i + 1) n) ≡ sets l (s + i) (drop i n)
-store-turn l n s i h = let e : s + (i + 1) ≡ suc (s + i) = omega arith in rw (drop-more n i 0 h, e) refl
-
-pub store-over : (l n : List ℕ) (s i : ℕ) → length n ≤ i → sets l (s + i) (drop i n) ≡ l
-store-over l n s i h = rw (drop-of-length-le n h) refl
+-- a name copied into the part of a buffer that begins at a place
+pub copied : (l n part : List ℕ) (at : ℕ) → at + length n ≤ length l → part ≡ take (length n) n ++ drop (length n) (take (length l - at) (drop at l))
+    → take at l ++ (part ++ drop (length l - at) (drop at l)) ≡ sets l at n
+copied l n part at room e =
+    let left : length (drop at l) ≡ length l - at = length-drop at l in
+    rw (
+      e,
+      take-all (length l - at) (drop at l) (omega (arith, left)),
+      drop-of-length-le (drop at l) {i = length l - at} (omega (arith, left)),
+      take-length n,
+      drop-drop (length n) at l,
+      append-nil (n ++ drop (at + length n) l),
+    )
+    (sym (sets-eq n l at room ∙ append-assoc (take at l) n (drop (at + length n) l)))
 
 take-sets-before : (vs l : List ℕ) (i k : ℕ) → i ≤ k → take i (sets l k vs) ≡ take i l
 take-sets-before [] l i k h = refl
@@ -219,8 +251,8 @@ module _ {ns : List (List ℕ)} {v filled place : ℕ} {letters index after name
         numbered = ap (λ e. e % 256) (inserted .here) ∙ (let e : row % 256 ≡ k = omega (arith, rows, l, h) in e);
       })
 
-  pub one-more : NamesHeld all (v + 1) (filled + length name) (sets letters filled name) after
-  one-more = record {
+  all-held : NamesHeld all (v + 1) (filled + length name) (sets letters filled name) after
+  all-held = record {
     counted = sym more;
     lettered = ap₂ (λ a b. a + b) (held .lettered) (letters-one name) ∙ sym (letters-append ns (name ∷ []));
     rows = rows-then;
@@ -229,3 +261,6 @@ module _ {ns : List (List ℕ)} {v filled place : ℕ} {letters index after name
     room-for-letters = length-sets letters filled name ∙ held .room-for-letters;
     room-for-rows = kept ∙ held .room-for-rows;
   }
+
+  pub one-more : {then : List ℕ} → then ≡ sets letters filled name → NamesHeld all (v + 1) (filled + length name) then after
+  one-more e = rw e all-held

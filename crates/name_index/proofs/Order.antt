@@ -1,12 +1,12 @@
 -- The laws of the order of names: it is total, and a name is the same as itself alone.
-use Prim.Native.Nat.{ℕ, zero, suc, _+_, _-_, _<_, _≤_, max}
-use mathlib.Core.Bool.{Bool, true, false}
+use Prim.Native.Nat.{ℕ, zero, suc, _+_, _-_, _%_, _<_, _≤_, min, max}
+use mathlib.Core.Bool.{true, false}
 use mathlib.Core.Path.{_≡_, refl, sym, ap, ap₂, _∙_}
 use mathlib.Core.List.{List, [], _∷_}
 use native.Mathlib.Omega.{arith}
 use borrow.Author.Tests.{lt-ltb, le-ltb, eqb-true, eq-eqb, ne-eqb}
-use lib.Dec.{ltb, eqb}
-use lib.ListN.{length, getD, drop, drop-of-length-le}
+use lib.Dec.{eqb}
+use lib.ListN.{length, getD, take, drop, drop-of-length-le, length-take}
 use Rattle.base.specs.Choice.{pick}
 use Rattle.base.proofs.Cases.{by-test, by-less, by-equal, both-yes}
 use Rattle.base.proofs.Lists.{drop-more}
@@ -32,7 +32,7 @@ module _ (c d : ℕ) where
   unfolding pick
   greater-letter h = rw (le-ltb c d (omega (arith, h)), lt-ltb d c h) refl
 
-  pub same-letter : c ≡ d → Same ≡ letterSide c d
+  same-letter : c ≡ d → Same ≡ letterSide c d
   unfolding pick
   same-letter h = rw (le-ltb c d (omega (arith, h)), le-ltb d c (omega (arith, h))) refl
 
@@ -112,11 +112,11 @@ side-same (c ∷ a) (d ∷ b) e =
 pub never-before-itself : {A : Type 0} (a b : List ℕ) → a ≡ b → sideOf a b ≡ Before → A
 never-before-itself a b e h = let z : _≡_ {A = ℕ} 1 0 = ap sideNumber (sym (side-self a) ∙ ap (sideOf a) e ∙ h) in absurd (omega arith)
 
-pub never-both : {A : Type 0} {s : Side} → s ≡ Before → s ≡ After → A
-never-both e g = let z : _≡_ {A = ℕ} 0 2 = ap sideNumber (sym e ∙ g) in absurd (omega arith)
-
 pub not-same-before : {A : Type 0} {s : Side} → s ≡ Same → s ≡ Before → A
 not-same-before e g = let z : _≡_ {A = ℕ} 1 0 = ap sideNumber (sym e ∙ g) in absurd (omega arith)
+
+pub not-both : {A : Type 0} {s : Side} → s ≡ Before → s ≡ After → A
+not-both e g = let z : _≡_ {A = ℕ} 0 2 = ap sideNumber (sym e ∙ g) in absurd (omega arith)
 
 pub not-same-after : {A : Type 0} {s : Side} → s ≡ Same → s ≡ After → A
 not-same-after e g = let z : _≡_ {A = ℕ} 1 2 = ap sideNumber (sym e ∙ g) in absurd (omega arith)
@@ -167,7 +167,13 @@ same-name-self (c ∷ a) = rw (eq-eqb c c refl) (same-name-self a)
 pub other-name : (a b : List ℕ) → (a ≡ b → ⊥) → sameName a b ≡ false
 other-name a b n = by-test (sameName a b) (λ e. absurd (n (same-name-is a b e))) (λ e. e)
 
--- ---- two names compared from the last letter on
+-- ---- two names compared
+
+-- one whose length a byte tells is short enough
+pub short-part : (l p : List ℕ) (at n : ℕ) → p ≡ take (n % 256) (drop at l) → length p < 256
+short-part l p at n e =
+    let m : length p ≡ min (n % 256) (length (drop at l)) = ap length e ∙ length-take (n % 256) (drop at l) in
+    omega (arith, m)
 
 pub shorter-before : (a b : List ℕ) → length a < length b → Before ≡ sideOf a b
 unfolding sideOf

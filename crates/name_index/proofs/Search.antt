@@ -1,6 +1,5 @@
 -- A search by halves finds a name where it stands, or where it would stand, with few comparisons.
-use Prim.Native.Nat.{ℕ, zero, suc, _+_, _-_, _*_, _/_, _%_, _^_, _<_, _≤_}
-use mathlib.Core.Bool.{true, false}
+use Prim.Native.Nat.{ℕ, zero, suc, _+_, _-_, _/_, _%_, _^_, _<_, _≤_}
 use mathlib.Core.Path.{_≡_, refl, sym, ap, _∙_}
 use mathlib.Core.List.{List, [], _∷_}
 use native.Mathlib.Omega.{arith}
@@ -8,14 +7,14 @@ use native.Mathlib.Nat.{zero-add, add-zero, pow-suc}
 use lib.Pow.{pow-add}
 use lib.ListN.{length, getD}
 use Rattle.base.specs.Choice.{pick}
-use Rattle.base.proofs.Cases.{by-less, by-equal}
-use Rattle.source.specs.Program.{sameName, wordFrom}
+use Rattle.base.proofs.Cases.{by-less}
+use Rattle.source.specs.Program.{wordFrom}
 use Rattle.name_index.specs.declared.Side.{Side}
 use Rattle.name_index.specs.declared.Side.the-variants.{Before, Same, After}
 use Rattle.name_index.specs.Order.{sideOf}
 use Rattle.name_index.specs.Memory.{nameAt, NamesHeld}
 use Rattle.name_index.specs.Answers.{Searches, nowhere, here, first-half, second-half, sideAt, wordAt, FewComparisons, AsAsked, Fits}
-use Rattle.name_index.proofs.Order.{after-before, before-after, before-all, side-same, side-self, never-before-itself, not-same-before, not-same-after, same-name-self, other-name}
+use Rattle.name_index.proofs.Order.{after-before, before-after, before-all, side-same, side-self, never-before-itself, not-same-before, not-same-after, not-both, same-name-self, other-name}
 
 -- ---- the number of comparisons
 
@@ -51,6 +50,27 @@ bound-met word (suc d) =
     let half : 2 ^ suc d / 2 ≡ 2 ^ d = rw (pow-suc 2 d) (omega arith) in
     let rest : Searches (λ i. Before) word 0 (2 ^ suc d / 2) 0 0 (suc d) = rw half (bound-met word d) in
     first-half 0 (2 ^ suc d) some refl rest
+
+-- ---- there is one search
+
+pub search-only : {side : ℕ → Side} {word : ℕ → ℕ} {from left w place n w′ place′ n′ : ℕ} → Searches side word from left w place n
+    → Searches side word from left w′ place′ n′ → (w ≡ w′) × (place ≡ place′) × (n ≡ n′)
+search-only (nowhere from) (nowhere at) = (refl, refl, refl)
+search-only (nowhere from) (here at left some e) = absurd (omega (arith, some))
+search-only (nowhere from) (first-half at left some e s) = absurd (omega (arith, some))
+search-only (nowhere from) (second-half at left some e s) = absurd (omega (arith, some))
+search-only (here from left some e) (nowhere at) = absurd (omega (arith, some))
+search-only (here from left some e) (here at rest more g) = (refl, refl, refl)
+search-only (here from left some e) (first-half at rest more g t) = not-same-before e g
+search-only (here from left some e) (second-half at rest more g t) = not-same-after e g
+search-only (first-half from left some e s) (nowhere at) = absurd (omega (arith, some))
+search-only (first-half from left some e s) (here at rest more g) = not-same-before g e
+search-only (first-half from left some e s) (first-half at rest more g t) = let h = search-only s t in (h .0, h .1, ap suc (h .2))
+search-only (first-half from left some e s) (second-half at rest more g t) = not-both e g
+search-only (second-half from left some e s) (nowhere at) = absurd (omega (arith, some))
+search-only (second-half from left some e s) (here at rest more g) = not-same-after g e
+search-only (second-half from left some e s) (first-half at rest more g t) = not-both g e
+search-only (second-half from left some e s) (second-half at rest more g t) = let h = search-only s t in (h .0, h .1, ap suc (h .2))
 
 -- ---- the turns of the loop
 

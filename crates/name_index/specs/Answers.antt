@@ -1,10 +1,13 @@
 -- What a lookup and an addition do. Comments in quotes are the words of document 02, L2.
 use Prim.Native.Nat.{ℕ, suc, _+_, _-_, _*_, _/_, _%_, _^_, _≤_, _<_}
+use mathlib.Core.Bool.{Bool, true, false}
 use mathlib.Core.Path.{_≡_}
 use mathlib.Core.List.{List, [], _∷_, _++_}
+use lib.Dec.{ltb, leb}
 use lib.ListN.{length, getD}
+use Rattle.base.specs.Choice.{pick}
 use Rattle.source.specs.Limits.{mostBytes}
-use Rattle.source.specs.Memory.{tableRows}
+use Rattle.source.specs.Memory.{tableRows, lettersIn}
 use Rattle.source.specs.Program.{wordFrom}
 use Rattle.name_index.specs.declared.Side.{Side}
 use Rattle.name_index.specs.declared.Side.the-variants.{Before, Same, After}
@@ -55,13 +58,13 @@ pub record Fits (name letters index : List ℕ) (v place : ℕ) : Type 0 where
   pub behind : (i : ℕ) → i < place → sideAt name letters index i ≡ After
   pub before : (i : ℕ) → place ≤ i → i < v → sideAt name letters index i ≡ Before
 
-abbrev pub HasRoom : ℕ → ℕ → ℕ → Type 0
-HasRoom v filled many = (v < tableRows) × (filled + many ≤ mostBytes)
+-- whether there is room for a name behind others
+abbrev pub hasRoom : List (List ℕ) → List ℕ → Bool
+hasRoom ns name = pick (ltb (length ns) tableRows) (leb (lettersIn ns + length name) mostBytes) false
 
--- what is added where there is room for it
-abbrev pub AddedTo : List (List ℕ) → ℕ → ℕ → List ℕ → Added → List ℕ → List ℕ → Type 0
-AddedTo ns v filled name (Names c f) letters index = HasRoom v filled (length name) × NamesHeld (ns ++ name ∷ []) c f letters index
-AddedTo ns v filled name Unfit letters index = HasRoom v filled (length name) → ⊥
+abbrev pub AddedTo : List (List ℕ) → List ℕ → Added → List ℕ → List ℕ → Type 0
+AddedTo ns name (Names v filled) letters index = (hasRoom ns name ≡ true) × NamesHeld (ns ++ name ∷ []) v filled letters index
+AddedTo ns name Unfit letters index = hasRoom ns name ≡ false
 
 abbrev pub Adds : ℕ → ℕ → ℕ → List ℕ → List ℕ → List ℕ → Added → List ℕ → List ℕ → Type 0
 Adds v filled place name before-letters before-index r letters index =
@@ -69,4 +72,4 @@ Adds v filled place name before-letters before-index r letters index =
     → NamesHeld ns v filled before-letters before-index
     → Fits name before-letters before-index v place
     → length name < 256
-    → AddedTo ns v filled name r letters index
+    → AddedTo ns name r letters index

@@ -2,14 +2,13 @@
 // each name, in the order of the names: where its letters begin, times 256, and how many there are; that times 256, and the number
 // of the name, from 0.
 use base::part;
+use bytes::copy;
 use source::MOST_BYTES;
 use source::TABLE_ROWS;
 ghost use mathlib.Core.Path.{_≡_};
-ghost use Prim.Native.Nat.{_≤_, _<_, max};
+ghost use Prim.Native.Nat.{_<_, max};
 ghost use lib.Dec.{eqb};
 ghost use lib.ListN.{length};
-ghost use lib.Seq.{sets};
-ghost use Rattle.source.specs.Limits.{mostBytes};
 ghost use Rattle.base.specs.Choice.{pick};
 ghost use Rattle.name_index.specs.Order.{letterSide, sideOf};
 ghost use Rattle.name_index.specs.Answers.{Searches, sideAt, wordAt, FewComparisons, FindsWord, Adds};
@@ -59,6 +58,7 @@ fn differing(a: u8, b: u8, place: u8) -> u8
     place
 }
 
+// The larger of two places.
 fn further(a: u8, b: u8) -> u8
     ensures { λ r. ⌜ r ≡ max a b ⌝ }
 {
@@ -146,18 +146,6 @@ pub fn find(letters: &[u8], index: &[u32], v: u8, name: &[u8]) -> Found
     }
 }
 
-// Puts the letters of a name behind those that there are.
-fn store(letters: &mut [u8], filled: usize, name: &[u8])
-    requires { ⌜ filled ≤ mostBytes ⌝ }
-    ensures { λ _. ⌜ now (letters .exit) ≡ sets (now (letters .entry)) filled (now (name .entry)) ⌝ }
-{
-    let mut i = 0;
-    while i < name.len() {
-        base::put_byte(letters, filled + i, name[i]);
-        i += 1;
-    }
-}
-
 // Puts a row at a place among v others, those from there on behind it.
 fn insert(index: &mut [u32], v: usize, place: usize, row: u32)
     ensures { λ _. ⌜ Inserts v place row (now (index .entry)) (now (index .exit)) ⌝ }
@@ -185,13 +173,17 @@ pub fn add(
     if TABLE_ROWS <= v as u32 {
         return Added::Unfit;
     }
-    if MOST_BYTES < filled as usize {
+    if letters.len() != MOST_BYTES {
         return Added::Unfit;
     }
-    if MOST_BYTES - (filled as usize) < name.len() {
+    let at = filled as usize;
+    if MOST_BYTES < at {
         return Added::Unfit;
     }
-    store(letters, filled as usize, name);
+    if MOST_BYTES - at < name.len() {
+        return Added::Unfit;
+    }
+    copy(name, &mut letters[at..]);
     let row = filled * 65536 + (name.len() % 256) as u32 * 256 + v as u32;
     insert(index, v as usize, place, row);
     Added::Names(v + 1, filled + name.len() as u32)

@@ -1,16 +1,16 @@
 -- Names declared one after the other, and where there is room for all.
-use Prim.Native.Nat.{ℕ, zero, suc, _+_, _-_, _/_, _%_, _<_, _≤_}
+use Prim.Native.Nat.{ℕ, _+_, _-_, _/_, _%_, _<_, _≤_}
 use mathlib.Core.Bool.{true, false}
 use mathlib.Core.Path.{_≡_, refl, sym, ap, _∙_}
 use mathlib.Core.List.{List, [], _∷_, _++_, append-nil, append-assoc}
 use native.Mathlib.Omega.{arith}
 use native.Mathlib.Nat.{sub-zero}
-use borrow.Author.Tests.{eq-eqb, ne-eqb, lt-ltb, le-leb, ltb-true, leb-true}
-use lib.Dec.{ltb, leb, eqb}
+use borrow.Author.Tests.{eq-eqb, ne-eqb, lt-ltb, le-leb}
+use lib.Dec.{eqb}
 use lib.ListN.{length, take, drop, getD, length-append}
 use Rattle.base.specs.Choice.{pick}
 use Rattle.base.specs.Places.{each}
-use Rattle.base.proofs.Cases.{by-test, by-less, both-yes}
+use Rattle.base.proofs.Cases.{by-test}
 use Rattle.base.proofs.Places.{each-more, each-over}
 use Rattle.source.specs.Limits.{mostBytes}
 use Rattle.source.specs.Tokens.{Lexeme, name, token}
@@ -21,10 +21,10 @@ use Rattle.source.proofs.Letters.{letters-append}
 use Rattle.name_index.specs.declared.Added.{Added}
 use Rattle.name_index.specs.declared.Added.the-variants.{Names as Adding, Unfit as NotAdded}
 use Rattle.name_index.specs.Memory.{NamesHeld}
-use Rattle.name_index.specs.Answers.{HasRoom, AddedTo}
+use Rattle.name_index.specs.Answers.{hasRoom, AddedTo}
 use Rattle.names.specs.declared.Declared.{Declared}
 use Rattle.names.specs.declared.Declared.the-variants.{Names as Declaring, Refused, Unfit}
-use Rattle.names.specs.Answers.{Names, names, refusal, unfit, hasRoom, declaredOf, Tells, declares, refuses, no-room}
+use Rattle.names.specs.Answers.{Names, names, refusal, unfit, declaredOf, Tells, declares, refuses, no-room}
 use Rattle.names.specs.Internal.{NamesSoFar}
 
 -- ---- one name
@@ -43,38 +43,16 @@ module _ (ms : List (List ℕ)) (n : List ℕ) where
     unfolding declaredOf pick
     without-room r = rw (eq-eqb (wordOf ms n) 0 new, r) refl
 
-module _ {ms : List (List ℕ)} {v filled : ℕ} {letters index : List ℕ} (held : NamesHeld ms v filled letters index) (n : List ℕ) where
-  room-told : HasRoom v filled (length n) → hasRoom ms n ≡ true
-  unfolding pick
-  room-told r =
-      let c = held .counted in
-      let l = held .lettered in
-      let a = r .0 in
-      let b = r .1 in
-      rw (lt-ltb (length ms) tableRows (omega (arith, c, a)), le-leb (lettersIn ms + length n) mostBytes (omega (arith, l, b))) refl
+module _ (ms : List (List ℕ)) (n : List ℕ) (new : wordOf ms n ≡ 0) {letters index : List ℕ} (r : Added) (added : AddedTo ms n r letters index) where
+  pub is-added : (v filled : ℕ) → r ≡ Adding v filled → Tells letters index (Declaring v filled) (declaredOf ms (n ∷ []))
+  is-added v filled e =
+      let one : (hasRoom ms n ≡ true) × NamesHeld (ms ++ n ∷ []) v filled letters index = rw e at added in
+      rw (with-room ms n new (one .0)) (declares (ms ++ n ∷ []) v filled (one .1))
 
-  no-room-told : (HasRoom v filled (length n) → ⊥) → hasRoom ms n ≡ false
-  no-room-told lacking =
-      by-test (hasRoom ms n)
-      (λ t.
-      let both = both-yes (ltb (length ms) tableRows) (leb (lettersIn ms + length n) mostBytes) t in
-      let c = held .counted in
-      let l = held .lettered in
-      let a = ltb-true (length ms) tableRows (both .0) in
-      let b = leb-true (lettersIn ms + length n) mostBytes (both .1) in
-      absurd (lacking (omega (arith, c, a), omega (arith, l, b))))
-      (λ t. t)
-
-  module _ (new : wordOf ms n ≡ 0) {after-letters after-index : List ℕ} (r : Added) (added : AddedTo ms v filled n r after-letters after-index) where
-    pub is-added : (c f : ℕ) → r ≡ Adding c f → Tells after-letters after-index (Declaring c f) (declaredOf ms (n ∷ []))
-    is-added c f e =
-        let one : HasRoom v filled (length n) × NamesHeld (ms ++ n ∷ []) c f after-letters after-index = rw e at added in
-        rw (with-room ms n new (room-told (one .0))) (declares (ms ++ n ∷ []) c f (one .1))
-
-    pub is-not-added : r ≡ NotAdded → Tells after-letters after-index Unfit (declaredOf ms (n ∷ []))
-    is-not-added e =
-        let lacking : HasRoom v filled (length n) → ⊥ = rw e at added in
-        rw (without-room ms n new (no-room-told lacking)) no-room
+  pub is-not-added : r ≡ NotAdded → Tells letters index Unfit (declaredOf ms (n ∷ []))
+  is-not-added e =
+      let full : hasRoom ms n ≡ false = rw e at added in
+      rw (without-room ms n new full) no-room
 
 pub is-twice : (ms : List (List ℕ)) (n letters index : List ℕ) → (wordOf ms n ≡ 0 → ⊥) → Tells letters index Refused (declaredOf ms (n ∷ []))
 is-twice ms n letters index e = rw (twice ms n e) refuses

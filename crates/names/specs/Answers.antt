@@ -1,15 +1,13 @@
 -- What looking up and declaring do, stated of all names that the arrays hold. Comments in quotes are document 01's words.
-use Prim.Native.Nat.{ℕ, _+_}
-use mathlib.Core.Bool.{Bool, false}
+use Prim.Native.Nat.{ℕ}
 use mathlib.Core.Path.{_≡_}
 use mathlib.Core.List.{List, [], _∷_, _++_, map}
-use lib.Dec.{ltb, leb, eqb}
-use lib.ListN.{length}
+use lib.Dec.{eqb}
 use Rattle.base.specs.Choice.{pick}
-use Rattle.source.specs.Limits.{mostBytes}
-use Rattle.source.specs.Memory.{tableRows, lettersIn, tokensFrom, lexemesFrom}
+use Rattle.source.specs.Memory.{tokensFrom, lexemesFrom}
 use Rattle.source.specs.Program.{wordOf, lookedUp}
 use Rattle.name_index.specs.Memory.{NamesHeld}
+use Rattle.name_index.specs.Answers.{hasRoom}
 use Rattle.names.specs.declared.Declared.{Declared}
 use Rattle.names.specs.declared.Declared.the-variants.{Names as Declaring, Refused, Unfit}
 
@@ -29,10 +27,6 @@ pub data Names : Type 0 where
   names : List (List ℕ) → Names
   refusal : ℕ → Names
   unfit : Names
-
--- whether there is room for a name behind others
-abbrev pub hasRoom : List (List ℕ) → List ℕ → Bool
-hasRoom ms n = pick (ltb (length ms) tableRows) (leb (lettersIn ms + length n) mostBytes) false
 
 -- the names ns declared behind ms, one after the other. 8 "name unknown, declared twice, or SEND misused"
 unfoldable pub declaredOf : List (List ℕ) → List (List ℕ) → Names

@@ -5,7 +5,7 @@ use native.Mathlib.Omega.{arith}
 use Rattle.name_index.specs.Order.{sideOf}
 use Rattle.name_index.specs.Memory.{nameIn}
 use Rattle.name_index.specs.Answers.{sideAt, wordAt}
-use Rattle.name_index.proofs.Addition.{short-part}
+use Rattle.name_index.proofs.Order.{short-part}
 use Rattle.name_index.proofs.Search.{GoesOn, search-start, search-here, search-first, search-second, search-over, search-few, word-found}
 use Rattle.name_index.proofs.find.Statement.{statement}
 use Rattle.name_index.proofs.find.Tie as tie
