@@ -1,4 +1,4 @@
-//! What the texts that compile and read-back are measured on share.
+//! What the texts and objects that the calls are measured on share.
 
 /// A text, with what it is called in the table.
 pub struct Input {
@@ -19,3 +19,8 @@ impl Input {
 pub const MOST_ORDERS: usize = 1023;
 /// How many IFs may stand in each other.
 pub const MOST_LEVELS: usize = 16;
+
+/// The orders of a text that parts them by `;`.
+pub fn orders(text: &str) -> Vec<String> {
+    text.split(';').map(str::to_string).collect()
+}

@@ -1,6 +1,6 @@
 //! Objects beside those of the sources, most of them such as no source has.
 
-use crate::inputs::{Input, MOST_LEVELS, MOST_ORDERS};
+use crate::inputs::{orders, Input, MOST_LEVELS, MOST_ORDERS};
 
 pub fn all() -> Vec<Input> {
     vec![
@@ -69,11 +69,6 @@ fn skips() -> Vec<String> {
         orders(&format!("{open}JMP A 0{close}"))
     };
     (0..MOST_ORDERS / size).flat_map(nest).collect()
-}
-
-/// The orders of a text that parts them by `;`.
-fn orders(text: &str) -> Vec<String> {
-    text.split(';').map(str::to_string).collect()
 }
 
 /// One instruction of all orders, the same over and over.

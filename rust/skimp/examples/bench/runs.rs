@@ -1,5 +1,6 @@
 //! Run: the time for a step, of objects that both run from the start to their STOP.
 
+use crate::inputs::orders;
 use std::time::{Duration, Instant};
 
 const ROUNDS: usize = 7;
@@ -24,6 +25,15 @@ struct Program {
 }
 
 impl Program {
+    /// The orders of `body`, `times` times over, with room for so many bytes of output.
+    fn new(name: &'static str, body: Vec<String>, times: u32, output: usize) -> Program {
+        Program {
+            name,
+            orders: repeat(body, times),
+            output,
+        }
+    }
+
     fn text(&self) -> Vec<u8> {
         let header = format!("BOX {VARIABLES} {TEMPORARIES} {}", self.orders.len());
         let lines = [header].into_iter().chain(self.orders.iter().cloned());
@@ -66,40 +76,41 @@ fn expression(depth: usize, used: usize, orders: &mut Vec<String>) {
     orders.push(format!("{} D {right}", NODES[turn % NODES.len()]));
 }
 
-fn programs() -> [Program; 4] {
+/// Divisions of random words of both signs, by numbers and by words of both signs. They leave
+/// nothing, less than half of the divisor, half of it or more, and what comes next cannot be
+/// foreseen.
+fn divisions() -> Vec<String> {
+    let (short, odd, even) = (TEMPORARY, TEMPORARY + 1, TEMPORARY + 2);
+    let (sum, part) = (TEMPORARY + 3, TEMPORARY + 4);
+    // a random word, a shorter one, and divisors from -7 to 7 and from -14 to 14
+    let words = format!(
+        "LOAD D {TOTAL};MLT K 1103515245;ADD K 12345;STR D {TOTAL};SHR K 14;SUB K 131072;\
+         STR D {short};AND K 14;SUB K 7;STR D {odd};ADD D {odd};STR D {even}"
+    );
+    let quotients = format!(
+        "LOAD D {TOTAL};DIV K 2;ADD D {sum};DIV K 6;ADD D {TOTAL};DIV D {even};SUB D {short};\
+         DIV K 10;ADD D {TOTAL};DIV D {odd};SUB D {sum};DIV D {even};ADD D {short};DIV K 1000;\
+         STR D {part};LOAD D {short};DIV K 2;ADD D {part};DIV D {even};STR D {part};\
+         LOAD D {short};MLT D {odd};DIV D {odd};ADD D {part};DIV K 4;ADD D {sum};STR D {sum}"
+    );
+    orders(&format!("{words};{quotients}"))
+}
+
+fn programs() -> [Program; 5] {
     let mut sum = Vec::new();
     expression(TEMPORARIES - 1, 0, &mut sum);
     sum.push(format!("STR D {TOTAL}"));
-    let mut sends = Vec::new();
-    for word in [COUNTER, TOTAL, COUNTER, TOTAL] {
-        sends.push(format!("LOAD D {word}"));
-        sends.push("SEND - 0".to_string());
-    }
+    let sends = format!("LOAD D {COUNTER};SEND - 0;LOAD D {TOTAL};SEND - 0");
+    let sends = orders(&format!("{sends};{sends}"));
     // a condition that holds in the first part of another, so that two SKIPs come in a row
     let groups = "LOAD D 2;CMP K 0;BLT A 12;LOAD D 2;CMP K 0;BLT A 9;LOAD D 2;STR D 3;SKIP A 11;\
                   LOAD K 0;STR D 3;SKIP A 14;LOAD K 1;STR D 3";
-    let groups = groups.split(';').map(str::to_string).collect();
     [
-        Program {
-            name: "counting",
-            orders: repeat(Vec::new(), 2_000_000),
-            output: 0,
-        },
-        Program {
-            name: "expression",
-            orders: repeat(sum, 80_000),
-            output: 0,
-        },
-        Program {
-            name: "groups",
-            orders: repeat(groups, 1_000_000),
-            output: 0,
-        },
-        Program {
-            name: "sending",
-            orders: repeat(sends, 1_000_000),
-            output: 4 * 4_000_000,
-        },
+        Program::new("counting", Vec::new(), 2_000_000, 0),
+        Program::new("expression", sum, 80_000, 0),
+        Program::new("dividing", divisions(), 300_000, 0),
+        Program::new("groups", orders(groups), 1_000_000, 0),
+        Program::new("sending", sends, 1_000_000, 4 * 4_000_000),
     ]
 }
 
