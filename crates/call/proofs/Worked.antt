@@ -1,4 +1,5 @@
--- "Words start at 0": a state of zero bytes is the start. Document 01's worked object called from it: it sends 3 in 18 steps.
+-- "Words start at 0": a state of zero bytes is the start. Document 01's worked object called from it: it sends 5, then 3,
+-- in 20 steps.
 use Prim.Native.Nat.{ℕ, zero, suc, _+_}
 use mathlib.Core.Path.{_≡_, refl}
 use mathlib.Core.List.{[], _∷_}
@@ -34,9 +35,9 @@ start-words (suc words) i n = rw (number-zero 4 i n, start-words words (i + 4) n
 pub worked-call :
     runCall worked (replicate 44 0) (replicate 9 255) 1000
     ≡ call
-    (reply 20 18)
-    (0 ∷ 0 ∷ 0 ∷ 3 ∷ 0 ∷ 0 ∷ 0 ∷ 20 ∷ 0 ∷ 0 ∷ 0 ∷ 0 ∷ 0 ∷ 0 ∷ 0 ∷ 1 ∷ 0 ∷ 0 ∷ 0 ∷ 20
-    ∷ 0 ∷ 0 ∷ 0 ∷ 0 ∷ 0 ∷ 0 ∷ 0 ∷ 0 ∷ 0 ∷ 0 ∷ 0 ∷ 3 ∷ 0 ∷ 0 ∷ 0 ∷ 4 ∷ 0 ∷ 0 ∷ 0 ∷ 3 ∷ 255 ∷ 255 ∷ 255 ∷ 255 ∷ [])
-    (0 ∷ 0 ∷ 0 ∷ 3 ∷ replicate 5 255)
+    (reply 20 20)
+    (0 ∷ 0 ∷ 0 ∷ 3 ∷ 0 ∷ 0 ∷ 0 ∷ 20 ∷ 0 ∷ 0 ∷ 0 ∷ 0 ∷ 0 ∷ 0 ∷ 0 ∷ 2 ∷ 0 ∷ 0 ∷ 0 ∷ 20
+    ∷ 0 ∷ 0 ∷ 0 ∷ 0 ∷ 0 ∷ 0 ∷ 0 ∷ 0 ∷ 0 ∷ 0 ∷ 0 ∷ 3 ∷ 0 ∷ 0 ∷ 0 ∷ 5 ∷ 0 ∷ 0 ∷ 0 ∷ 3 ∷ 255 ∷ 255 ∷ 255 ∷ 254 ∷ [])
+    (0 ∷ 0 ∷ 0 ∷ 5 ∷ 0 ∷ 0 ∷ 0 ∷ 3 ∷ 255 ∷ [])
 unfolding bytes pick table onFront fixed digits numeral withinLimits headerAt recordAmong recordAt linesAt firstStop firstOperand stopLast exactly reading wrap signed word difference quotient comparison send run numberAt numberBytes wordsAt registerBytes wordsBytes stateBytes isEnding registersFit stateFits objectCall runCall
 worked-call = refl

@@ -9,6 +9,7 @@ use libc::STDOUT_FILENO;
 fn main() {
     worked();
     starred();
+    quotients();
     constants();
     statements();
     slips();
@@ -107,8 +108,8 @@ fn worked_object(object: &[u8]) {
     slices(object);
 }
 
-// "It sends 3 in 18 steps." Called again, it reports its ending again. The state then has A = 3, B = 4 and the temporaries
-// 3 and -1.
+// 02, L3: it "now sends 5, then 3, in 20 steps." Called again, it reports its ending again. The state then has A = 3, B = 5 and
+// the temporaries 3 and -2.
 fn whole(object: &[u8]) {
     let mut state = [0u8; 44];
     let mut output = [255u8; 9];
@@ -121,7 +122,7 @@ fn whole(object: &[u8]) {
 // In slices of five steps, as a supervisor runs it.
 fn slices(object: &[u8]) {
     let mut state = [0u8; 44];
-    let mut output = [0u8; 4];
+    let mut output = [0u8; 8];
     run(b"slice", object, &mut state, &mut output, 5);
     run(b"slice", object, &mut state, &mut output, 5);
     run(b"slice", object, &mut state, &mut output, 5);
@@ -203,6 +204,12 @@ fn show_cases(table: &[u8], mark: u8, objects: bool) {
     }
 }
 
+// The same with a program that uses two temporaries.
+fn with_temporaries(title: &[u8], source: &[u8]) {
+    let mut state = [0u8; 36];
+    reading_from(title, source, &mut state);
+}
+
 // Readings, a line each.
 fn readings(table: &[u8]) {
     show_cases(table, 10, false);
@@ -228,6 +235,30 @@ fn starred() {
         -2**2\t%BEGIN;SEND(-2**2);%ENDOFPROGRAM\n\
         'FRED'\t%BEGIN;SEND('FRED');%ENDOFPROGRAM\n\
         ''''\t%BEGIN;SEND('''');%ENDOFPROGRAM",
+    );
+}
+
+// 02, L3: "the nearest whole number, halves away from zero: 7/2 is 4, -7/2 is -4, 1/3 is 0, 2/3 is 1. The least word divided by
+// -1 still wraps to itself".
+fn quotients() {
+    readings(
+        b"7/2\t%BEGIN;SEND(7/2);%ENDOFPROGRAM\n\
+        (-7)/2\t%BEGIN;SEND((-7)/2);%ENDOFPROGRAM\n\
+        1/3\t%BEGIN;SEND(1/3);%ENDOFPROGRAM\n\
+        2/3\t%BEGIN;SEND(2/3);%ENDOFPROGRAM\n\
+        5/2\t%BEGIN;SEND(5/2);%ENDOFPROGRAM",
+    );
+    with_temporaries(
+        b"1073741824/(\\2147483647)",
+        b"%BEGIN;SEND(1073741824/(\\2147483647));%ENDOFPROGRAM",
+    );
+    with_temporaries(
+        b"1073741823/(\\2147483647)",
+        b"%BEGIN;SEND(1073741823/(\\2147483647));%ENDOFPROGRAM",
+    );
+    with_temporaries(
+        b"(\\2147483647)/(-1)",
+        b"%BEGIN;SEND((\\2147483647)/(-1));%ENDOFPROGRAM",
     );
 }
 
@@ -264,11 +295,9 @@ fn statements() {
 // "Comparing by subtraction: 2147483647 is not below \2147483647." "Listing line 467 compares a character's code with 7, so it
 // loses 2147483640 to 2147483647." The other two are shown by `short_buffers` and `choices`.
 fn slips() {
-    let mut state = [0u8; 36];
-    reading_from(
+    with_temporaries(
         b"2147483647 < \\2147483647",
         b"%BEGIN\n%IF 2147483647 < \\2147483647 %THEN SEND(1) %ELSE SEND(0)\n%ENDOFPROGRAM\n",
-        &mut state,
     );
     readings(
         b"2147483639\t%BEGIN;SEND(2147483639);%ENDOFPROGRAM\n\

@@ -1,4 +1,4 @@
--- Document 01's worked object ("One program whole"): its text is read as its orders, which send 3 in 18 steps.
+-- Document 01's worked object ("One program whole"): its text is read as its orders, which send 5, then 3, in 20 steps.
 use Prim.Native.Nat.{ℕ}
 use mathlib.Core.Path.{_≡_, refl}
 use mathlib.Core.List.{List, [], _∷_}
@@ -57,6 +57,6 @@ worked-text = refl
 
 pub worked-run :
     run orders 100 (machine (record { acc = 0; next = 0; sent = 0; ending = 0 }) (replicate 6 0) (replicate 8 0))
-    ≡ ran 18 (machine (record { acc = 3; next = 20; sent = 1; ending = 20 }) (0 ∷ 0 ∷ 3 ∷ 4 ∷ 3 ∷ 4294967295 ∷ []) (0 ∷ 0 ∷ 0 ∷ 3 ∷ replicate 4 0))
+    ≡ ran 20 (machine (record { acc = 3; next = 20; sent = 2; ending = 20 }) (0 ∷ 0 ∷ 3 ∷ 5 ∷ 3 ∷ 4294967294 ∷ []) (0 ∷ 0 ∷ 0 ∷ 5 ∷ 0 ∷ 0 ∷ 0 ∷ 3 ∷ []))
 unfolding pick wrap signed word sum difference product negation quotient comparison send run
 worked-run = refl

@@ -1,10 +1,11 @@
-// Document 01's readings of word arithmetic, worked out and written one to a line. The file stdout beside src/ has what
-// document 01 says of each.
+// Document 01's readings of word arithmetic and 02's of division (L3), worked out and written one to a line. The file stdout
+// beside src/ has what the documents say of each.
 use libc::STDOUT_FILENO;
 use word_arithmetic::Answer;
 
 fn main() {
     starred();
+    quotients();
     faults();
     comparisons();
 }
@@ -29,6 +30,30 @@ fn starred() {
     show(b"1/3*3", times(word_arithmetic::div(1, 3), 3));
     show(b"6!!3", Answer::Value(word_arithmetic::bit_xor(6, 3)));
     show(b"-2**2", negated(word_arithmetic::pow(2, 2)));
+}
+
+// Halves are rounded away from zero, also those of the least word.
+fn quotients() {
+    let least = word_arithmetic::bit_not(2147483647);
+    show(b"7/2", word_arithmetic::div(7, 2));
+    show(b"(-7)/2", word_arithmetic::div(word_arithmetic::neg(7), 2));
+    show(b"1/3", word_arithmetic::div(1, 3));
+    show(b"2/3", word_arithmetic::div(2, 3));
+    show(b"5/2", word_arithmetic::div(5, 2));
+    show(b"5/(-2)", word_arithmetic::div(5, word_arithmetic::neg(2)));
+    show(b"(-4)/3", word_arithmetic::div(word_arithmetic::neg(4), 3));
+    show(
+        b"2147483647/(\\2147483647)",
+        word_arithmetic::div(2147483647, least),
+    );
+    show(
+        b"1073741824/(\\2147483647)",
+        word_arithmetic::div(1073741824, least),
+    );
+    show(
+        b"1073741823/(\\2147483647)",
+        word_arithmetic::div(1073741823, least),
+    );
 }
 
 // The faults, and the quotient that wraps.

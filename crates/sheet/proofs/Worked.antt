@@ -55,21 +55,21 @@ pub worked-beginnings : beginnings 2 true 0 (translation workedSheet) ≡ 0 ∷ 
 unfolding beginnings pick workedSheet partCode askingCode asking size starts code
 worked-beginnings = refl
 
--- it sends 3 in 18 steps
+-- it sends 5, then 3, in 20 steps
 pub worked-meaning :
     after 6 2 workedSheet
-    ≡ record { next = 7; store = record { words = 0 ∷ 0 ∷ 3 ∷ 4 ∷ []; sent = 3 ∷ [] }; count = 18; ending = 20 }
+    ≡ record { next = 7; store = record { words = 0 ∷ 0 ∷ 3 ∷ 5 ∷ []; sent = 5 ∷ 3 ∷ [] }; count = 20; ending = 20 }
 unfolding after workedSheet further pick moveAt moves count worth quotient signed difference wrap pattern sending
 worked-meaning = refl
 
 pub worked-run :
-    startRun workedSheet (replicate 8 0) 18
+    startRun workedSheet (replicate 8 0) 20
     ≡ ran
-    18
+    20
     (machine
-    (record { acc = 3; next = 20; sent = 1; ending = 20 })
-    (0 ∷ 0 ∷ 3 ∷ 4 ∷ 3 ∷ 4294967295 ∷ [])
-    (0 ∷ 0 ∷ 0 ∷ 3 ∷ 0 ∷ 0 ∷ 0 ∷ 0 ∷ []))
+    (record { acc = 3; next = 20; sent = 2; ending = 20 })
+    (0 ∷ 0 ∷ 3 ∷ 5 ∷ 3 ∷ 4294967294 ∷ [])
+    (0 ∷ 0 ∷ 0 ∷ 5 ∷ 0 ∷ 0 ∷ 0 ∷ 3 ∷ []))
 unfolding run pick workedSheet partCode askingCode asking size starts code quotient signed comparison temporariesOf conditionTemporaries temporaries difference wrap pattern sends
 worked-run = refl
 

@@ -375,7 +375,7 @@ CompiledBytesTell =
     → answer b ≡ accepted q
     → ((take (valueIn r) left ≡ take (valueIn t) end) → s ≡ q) × (s ≡ q → take (valueIn r) left ≡ take (valueIn t) end)
 
--- ======== "One program whole", as three calls: "It sends 3 in 18 steps."
+-- ======== "One program whole", as three calls; 02, L3: "the worked program now sends 5, then 3, in 20 steps."
 
 abbrev pub WorkedCompiles : Type 0
 WorkedCompiles =
@@ -389,12 +389,12 @@ WorkedIsReadBack =
     → length workedSheet ≤ length buffer
     → readBackCall workedObject buffer ≡ wrote (reply 0 (length workedSheet)) (workedSheet ++ drop (length workedSheet) buffer)
 
--- from a state of zero bytes, into an output of nine bytes that are all 255: A is 3, B is 4, the temporaries are 3 and -1
+-- from a state of zero bytes, into an output of nine bytes that are all 255: A is 3, B is 5, the temporaries are 3 and -2
 abbrev pub WorkedRuns : Type 0
 WorkedRuns =
     runCall workedObject (replicate 44 0) (replicate 9 255) 1000
     ≡ call
-    (reply 20 18)
-    (0 ∷ 0 ∷ 0 ∷ 3 ∷ 0 ∷ 0 ∷ 0 ∷ 20 ∷ 0 ∷ 0 ∷ 0 ∷ 0 ∷ 0 ∷ 0 ∷ 0 ∷ 1 ∷ 0 ∷ 0 ∷ 0 ∷ 20
-    ∷ 0 ∷ 0 ∷ 0 ∷ 0 ∷ 0 ∷ 0 ∷ 0 ∷ 0 ∷ 0 ∷ 0 ∷ 0 ∷ 3 ∷ 0 ∷ 0 ∷ 0 ∷ 4 ∷ 0 ∷ 0 ∷ 0 ∷ 3 ∷ 255 ∷ 255 ∷ 255 ∷ 255 ∷ [])
-    (0 ∷ 0 ∷ 0 ∷ 3 ∷ replicate 5 255)
+    (reply 20 20)
+    (0 ∷ 0 ∷ 0 ∷ 3 ∷ 0 ∷ 0 ∷ 0 ∷ 20 ∷ 0 ∷ 0 ∷ 0 ∷ 0 ∷ 0 ∷ 0 ∷ 0 ∷ 2 ∷ 0 ∷ 0 ∷ 0 ∷ 20
+    ∷ 0 ∷ 0 ∷ 0 ∷ 0 ∷ 0 ∷ 0 ∷ 0 ∷ 0 ∷ 0 ∷ 0 ∷ 0 ∷ 3 ∷ 0 ∷ 0 ∷ 0 ∷ 5 ∷ 0 ∷ 0 ∷ 0 ∷ 3 ∷ 255 ∷ 255 ∷ 255 ∷ 254 ∷ [])
+    (0 ∷ 0 ∷ 0 ∷ 5 ∷ 0 ∷ 0 ∷ 0 ∷ 3 ∷ 255 ∷ [])

@@ -1,5 +1,5 @@
--- Document 01's starred readings ("Readings either side of a line") as one table: each expression, sent by a program of one
--- instruction, and the number that it is.
+-- Document 01's starred readings ("Readings either side of a line") as one table, with the -7/2 of 02, L3: each expression,
+-- sent by a program of one instruction, and the number that it is.
 use Prim.Native.Nat.{ℕ}
 use Prim.Native.String.{String}
 use mathlib.Core.List.{List, [], _∷_, _++_}
@@ -19,7 +19,7 @@ reading s z = record { expression = s; is = z }
 -- (-(n + 1) is written `negsuc n`, and one `\` is written `\\`)
 abbrev pub readings : List Reading
 readings =
-    reading "-7/2" (negsuc 2)
+    reading "-7/2" (negsuc 3)
     ∷ reading "2147483647+1" (negsuc 2147483647)
     ∷ reading "-(\\2147483647)" (negsuc 2147483647)
     ∷ reading "0**0" (pos 1)

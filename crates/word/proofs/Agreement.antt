@@ -1,5 +1,6 @@
 -- The operations on patterns agree with the integers that the patterns stand for. For each operation of document 01's
--- "Word arithmetic" one theorem; `wrapped` and `TowardZero` are of specs/Integers.antt.
+-- "Word arithmetic" one theorem; `wrapped` and `Nearest` are of specs/Integers.antt. Comments in quotes are the words of
+-- document 01 and of 02, L3.
 use Prim.Native.Nat.{ℕ, _+_, _-_, _/_, _%_, _^_, _<_, _≤_, min, max}
 use mathlib.Core.Path.{_≡_, refl, sym, ap, ap₂, _∙_}
 use mathlib.Core.Bool.{false, _&&_}
@@ -10,16 +11,17 @@ use lib.Pow.{pow-mono}
 use borrow.Author.Tests.{ne-eqb, lt-ltb, le-ltb}
 use lib.Dec.{ltb, leb·zero}
 use lib.IntN.{ℤ, pos, negsuc, negℤ, _+ℤ_, _-ℤ_, _*ℤ_, pow}
-use lib.Signed.{mag, ltZ, leZ, quotZ}
+use lib.Signed.{mag, ltZ, leZ}
 use Rattle.base.specs.Choice.{pick}
 use Rattle.base.proofs.Cases.{by-less}
-use Rattle.word.specs.Word.{wrap, signed, word, sum, difference, product, negation, quotient, power, shiftLeft, shiftRight, value, fault}
+use Rattle.word.specs.Word.{wrap, signed, word, sum, difference, product, negation, rounded, quotient, power, shiftLeft, shiftRight, value, fault}
 use Rattle.word.specs.Word.{andBits, orBits, xorBits, notBits, comparison, related}
-use Rattle.word.specs.Integers.{wrapped, TowardZero, compared, bit}
+use Rattle.word.specs.Integers.{wrapped, Nearest, compared, bit}
 use Rattle.word.specs.declared.Relation.{Relation}
 use Rattle.word.proofs.Patterns.{word-small, signed-small, signed-word, word-signed, signed-equal, signed-low, signed-high, signed-pos}
 use Rattle.word.proofs.Wrapping.{word-sum, word-difference, word-product, word-negation, word-power, word-pos, wrap-right}
-use Rattle.word.proofs.Quotient.{drops-remainder, drops-remainder-only, quotient-in-range, signed-not-zero, word-by-minus-one}
+use Rattle.word.proofs.Nearest.{rounded-nearest, nearest-only, none-by-zero}
+use Rattle.word.proofs.Quotient.{quotient-in-range, signed-not-zero, word-by-minus-one}
 use Rattle.word.proofs.Bits.{bitwise-at, bit-shifted}
 use Rattle.word.proofs.SignedType.{less-one-pos, less-one-negsuc}
 use Rattle.word.proofs.Comparison.{comparison-compared, relation-to-zero}
@@ -75,24 +77,35 @@ pub power-faults : (a n k : ℕ) → signed n ≡ negsuc k → power a n ≡ fau
 unfolding power pick signed
 power-faults a n k e = rw e
 
--- ---- "`/` drops the remainder ..; the least word divided by -1 wraps to itself."
+-- ---- "the nearest whole number, halves away from zero .. The least word divided by -1 still wraps to itself, and zero still faults."
 
--- for words a and b, b not zero, the quotient is the pattern of the one integer that drops the remainder
-pub quotient-agrees : (a b : ℕ) → b < 4294967296 → (b ≡ 0 → ⊥) → (q : ℤ) → TowardZero (signed a) (signed b) q → quotient a b ≡ value (word q)
-unfolding quotient pick
-quotient-agrees a b small-b not-zero q t =
-    rw (ne-eqb b 0 not-zero) (ap (λ z. value (word z)) (sym (drops-remainder-only (signed a) (signed b) q t)))
-
-pub quotient-exists : (a b : ℕ) → b < 4294967296 → (b ≡ 0 → ⊥) → (q : ℤ) × TowardZero (signed a) (signed b) q
+-- there is one nearest whole number wherever the divisor is not zero, and none where it is
+pub quotient-exists : (a b : ℕ) → b < 4294967296 → (b ≡ 0 → ⊥) → (q : ℤ) × Nearest (signed a) (signed b) q
 quotient-exists a b small-b not-zero =
-    (quotZ (signed a) (signed b), drops-remainder (signed a) (signed b) (signed-not-zero b small-b not-zero))
+    (rounded (signed a) (signed b), rounded-nearest (signed a) (signed b) (signed-not-zero b small-b not-zero))
 
--- no quotient but one leaves the range
+pub quotient-unique : (x y p q : ℤ) → Nearest x y p → Nearest x y q → p ≡ q
+quotient-unique x y p q s t = nearest-only x y p s ∙ sym (nearest-only x y q t)
+
+-- of words, the quotient is its pattern, and a fault where there is none
+pub quotient-agrees : (a b : ℕ) (q : ℤ) → Nearest (signed a) (signed b) q → quotient a b ≡ value (word q)
+unfolding quotient pick
+quotient-agrees a b q t =
+    let not-zero : b ≡ 0 → ⊥ = λ e. none-by-zero (signed a) (signed b) q (rw e (signed-low 0 (omega arith))) t in
+    rw (ne-eqb b 0 not-zero) (ap (λ z. value (word z)) (sym (nearest-only (signed a) (signed b) q t)))
+
+pub quotient-faults : (a : ℕ) → (quotient a 0 ≡ fault 1) × ((q : ℤ) → Nearest (signed a) (signed 0) q → ⊥)
+unfolding quotient pick
+quotient-faults a = (refl, λ q. none-by-zero (signed a) (signed 0) q (signed-low 0 (omega arith)))
+
+-- no quotient leaves the range but that of the least word by -1
 pub quotient-exact :
-    (a b : ℕ) → a < 4294967296 → b < 4294967296 → (b ≡ 0 → ⊥) → (b ≡ 4294967295 → ⊥) →
-    (q : ℤ) → TowardZero (signed a) (signed b) q → wrapped q ≡ q
-quotient-exact a b small-a small-b not-zero not-minus-one q t =
-    wrapped-keeps q (rw (drops-remainder-only (signed a) (signed b) q t) (quotient-in-range a b small-a small-b not-zero not-minus-one))
+    (a b : ℕ) → a < 4294967296 → b < 4294967296 → (a ≡ 2147483648 → b ≡ 4294967295 → ⊥) →
+    (q : ℤ) → Nearest (signed a) (signed b) q → wrapped q ≡ q
+quotient-exact a b small-a small-b not-both q t =
+    wrapped-keeps q
+    (rw (nearest-only (signed a) (signed b) q t)
+    (quotient-in-range a b small-a small-b (λ e. none-by-zero (signed a) (signed b) q e t) not-both))
 
 pub quotient-by-minus-one : (a : ℕ) → a < 4294967296 → quotient a 4294967295 ≡ value (negation a)
 unfolding quotient pick

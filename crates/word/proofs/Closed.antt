@@ -6,11 +6,11 @@ use native.Mathlib.Omega.{arith}
 use native.Mathlib.Nat.{pow-suc, div-le-self}
 use lib.Dec.{ltb, eqb}
 use lib.IntN.{negsuc}
-use lib.Signed.{ltZ, quotZ}
+use lib.Signed.{ltZ}
 use Rattle.base.specs.Choice.{pick}
 use Rattle.base.proofs.Cases.{by-test}
 use Rattle.word.specs.Word.{wrap, signed, word, sum, difference, product, negation, bitwise, andBits, orBits, xorBits, notBits}
-use Rattle.word.specs.Word.{comparison, value, fault, quotient, power, shiftLeft, shiftRight}
+use Rattle.word.specs.Word.{comparison, value, fault, rounded, quotient, power, shiftLeft, shiftRight}
 use Rattle.word.proofs.Patterns.{word-small}
 use Rattle.word.proofs.Wrapping.{wrap-small}
 
@@ -85,7 +85,7 @@ picked-else false n v w h e = no-value n w e
 module _ (a b w : ℕ) where
   pub quotient-closed : quotient a b ≡ value w → w < 4294967296
   unfolding quotient
-  quotient-closed e = picked (eqb b 0) 1 (word (quotZ (signed a) (signed b))) w (word-small (quotZ (signed a) (signed b))) e
+  quotient-closed e = picked (eqb b 0) 1 (word (rounded (signed a) (signed b))) w (word-small (rounded (signed a) (signed b))) e
 
   pub power-closed : power a b ≡ value w → w < 4294967296
   unfolding power

@@ -1,9 +1,10 @@
+pub mod Readings
 pub mod Patterns
 pub mod Wrapping
 pub mod SignedType
+pub mod Nearest
 pub mod Quotient
 pub mod Bits
 pub mod Comparison
 pub mod Closed
 pub mod Agreement
-pub mod Readings

@@ -65,7 +65,7 @@ pub opposite-below : (n k : ℕ) → n ≤ suc k → mag (negℤ (pos n)) ≤ k
 opposite-below zero k h = omega arith
 opposite-below (suc n) k h = omega arith
 
-negation-small : (a : ℕ) → a < 4294967296 → (a ≡ 2147483648 → ⊥) → mag (negℤ (signed a)) < 2147483648
+pub negation-small : (a : ℕ) → a < 4294967296 → (a ≡ 2147483648 → ⊥) → mag (negℤ (signed a)) < 2147483648
 negation-small a h least =
     by-less a 2147483648
     (λ l. rw (signed-low a l) (omega (arith, opposite-below a a (omega arith))))

@@ -1,7 +1,7 @@
 -- What the theorems of proofs/Agreement.antt say of words in terms of the integers that they stand for.
-use Prim.Native.Nat.{ℕ, _+_, _/_, _%_, _^_, _<_}
+use Prim.Native.Nat.{ℕ, _/_, _%_, _^_, _≤_}
 use mathlib.Core.Path.{_≡_}
-use lib.IntN.{ℤ, pos, negsuc, natAbs, _+ℤ_, _*ℤ_}
+use lib.IntN.{ℤ, pos, negsuc, natAbs, _-ℤ_, _*ℤ_}
 use lib.Signed.{ltZ}
 use Rattle.base.specs.Choice.{pick}
 use Rattle.word.specs.Word.{signed, word}
@@ -10,12 +10,15 @@ use Rattle.word.specs.Word.{signed, word}
 unfoldable pub wrapped : ℤ → ℤ
 wrapped x = signed (word x)
 
--- q is x divided by y with the remainder dropped: x is q times y and a rest, which is nearer to 0 than y and on x's side
-pub record TowardZero (x y q : ℤ) : Type 0 where
-  pub rest : ℤ
-  pub whole : x ≡ q *ℤ y +ℤ rest
-  pub nearer : natAbs rest < natAbs y
-  pub side : natAbs x ≡ natAbs (q *ℤ y) + natAbs rest
+-- how far q is from x / y, times the size of y
+unfoldable pub distance : ℤ → ℤ → ℤ → ℕ
+distance x y q = natAbs (x -ℤ q *ℤ y)
+
+-- 02, L3: q is "the nearest whole number" to x / y, "halves away from zero". No whole number is nearer, and of those as near
+-- none is farther from zero.
+pub record Nearest (x y q : ℤ) : Type 0 where
+  pub near : (p : ℤ) → distance x y q ≤ distance x y p
+  pub away : (p : ℤ) → distance x y p ≡ distance x y q → natAbs p ≤ natAbs q
 
 -- -1, 0 or 1 as x is below y, equal to it or above it
 unfoldable pub compared : ℤ → ℤ → ℤ

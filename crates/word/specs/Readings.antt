@@ -1,4 +1,5 @@
--- The arithmetic among document 01's starred readings, as one table. The expression stands beside each line.
+-- The arithmetic among document 01's starred readings, with the -7/2 of 02, L3, as one table. The expression stands beside each
+-- line.
 use Prim.Native.Nat.{ℕ}
 use mathlib.Core.Path.{_≡_}
 use mathlib.Core.List.{List, [], _∷_, map}
@@ -20,7 +21,7 @@ reading o z = record { worked = o; is = z }
 -- (-(n + 1) is written `negsuc n`)
 unfoldable pub readings : List Reading
 readings =
-    reading (after (quotient 7 2) (λ q. value (negation q))) (negsuc 2)  -- -7/2 is -3
+    reading (after (quotient 7 2) (λ q. value (negation q))) (negsuc 3)  -- -7/2 is -4
     ∷ reading (value (sum 2147483647 1)) (negsuc 2147483647)  -- 2147483647+1 is -2147483648
     ∷ reading (value (negation (notBits 2147483647))) (negsuc 2147483647)  -- -(\2147483647) is -2147483648
     ∷ reading (power 0 0) (pos 1)  -- 0**0 is 1
@@ -35,3 +36,39 @@ readings =
 -- each is what document 01 says
 abbrev pub AllRead : Type 0
 AllRead = map (λ r. r .worked) readings ≡ map (λ r. value (word (r .is))) readings
+
+-- ---- quotients, 02, L3
+
+pub record Division : Type 0 where
+  pub dividend : ℤ
+  pub divisor : ℤ
+  pub is : ℤ
+
+unfoldable pub division : ℤ → ℤ → ℤ → Division
+division x y q = record { dividend = x; divisor = y; is = q }
+
+unfoldable pub divisions : List Division
+divisions =
+    division (pos 7) (pos 2) (pos 4)
+    ∷ division (negsuc 6) (pos 2) (negsuc 3)  -- -7 by 2 is -4
+    ∷ division (pos 1) (pos 3) (pos 0)
+    ∷ division (pos 2) (pos 3) (pos 1)
+    ∷ division (pos 5) (pos 2) (pos 3)
+    ∷ division (negsuc 4) (pos 2) (negsuc 2)  -- -5 by 2 is -3
+    ∷ division (pos 5) (negsuc 1) (negsuc 2)  -- 5 by -2 is -3
+    ∷ division (negsuc 4) (negsuc 1) (pos 3)  -- -5 by -2 is 3
+    ∷ division (negsuc 3) (pos 3) (negsuc 0)  -- -4 by 3 is -1
+    ∷ division (negsuc 4) (pos 3) (negsuc 1)  -- -5 by 3 is -2
+    -- by the least word
+    ∷ division (pos 2147483647) (negsuc 2147483647) (negsuc 0)  -- -1
+    ∷ division (pos 1073741824) (negsuc 2147483647) (negsuc 0)  -- -1
+    ∷ division (pos 1073741823) (negsuc 2147483647) (pos 0)
+    -- of the least word
+    ∷ division (negsuc 2147483647) (negsuc 2147483647) (pos 1)
+    ∷ division (negsuc 2147483647) (pos 2147483647) (negsuc 0)  -- by 2147483647 it is -1
+    ∷ division (negsuc 2147483647) (negsuc 0) (negsuc 2147483647)  -- by -1 itself
+    ∷ []
+
+-- each is what the rule says
+abbrev pub AllDivided : Type 0
+AllDivided = map (λ d. quotient (word (d .dividend)) (word (d .divisor))) divisions ≡ map (λ d. value (word (d .is))) divisions

@@ -1,10 +1,10 @@
 -- Word arithmetic, document 01. "Words are 32-bit signed": a word is kept as its pattern, a number below 2 to the 32
--- (4294967296), and stands for an integer, its signed reading. Comments in quotes are document 01's words.
+-- (4294967296), and stands for an integer, its signed reading. Comments in quotes are the words of document 01 and of 02, L3.
 use Prim.Native.Nat.{ℕ, zero, suc, _+_, _-_, _*_, _/_, _%_, _^_, min, max}
 use mathlib.Core.Bool.{Bool, not}
 use lib.Dec.{ltb, eqb}
-use lib.IntN.{ℤ, pos, negsuc}
-use lib.Signed.{ltZ, leZ, quotZ}
+use lib.IntN.{ℤ, pos, negsuc, negℤ}
+use lib.Signed.{ltZ, leZ}
 use Rattle.base.specs.Choice.{pick}
 use Rattle.word.specs.declared.Relation.{Relation}
 use Rattle.word.specs.declared.Relation.the-variants.{Equal, Unequal, Less, AtMost, Greater, AtLeast}
@@ -83,9 +83,21 @@ pub data Outcome : Type 0 where
   value : ℕ → Outcome
   fault : ℕ → Outcome
 
--- "`/` drops the remainder ..; the least word divided by -1 wraps to itself." "Faults: 1 zero divisor"
+-- m / n rounded, "halves away from zero": the whole part of m / n + 1 / 2
+abbrev pub roundedSize : ℕ → ℕ → ℕ
+roundedSize m n = (m * 2 + n) / (n * 2)
+
+-- the same of integers: below zero where just one of the two is
+abbrev pub rounded : ℤ → ℤ → ℤ
+rounded (pos m) (pos n) = pos (roundedSize m n)
+rounded (pos m) (negsuc n) = negℤ (pos (roundedSize m (suc n)))
+rounded (negsuc m) (pos n) = negℤ (pos (roundedSize (suc m) n))
+rounded (negsuc m) (negsuc n) = pos (roundedSize (suc m) (suc n))
+
+-- "the nearest whole number, halves away from zero": `Nearest` of specs/Integers.antt says it without a formula. "the least
+-- word divided by -1 wraps to itself." "Faults: 1 zero divisor"
 unfoldable pub quotient : ℕ → ℕ → Outcome
-quotient a b = pick (eqb b 0) (fault 1) (value (word (quotZ (signed a) (signed b))))
+quotient a b = pick (eqb b 0) (fault 1) (value (word (rounded (signed a) (signed b))))
 
 -- "x**0 is 1, for 0 too." "2 negative exponent"
 unfoldable pub power : ℕ → ℕ → Outcome

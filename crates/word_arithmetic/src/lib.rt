@@ -1,10 +1,11 @@
 // Word arithmetic on u32 patterns, document 01. Each function's equation cites word's specs/Word.antt.
 use word::Relation;
 ghost use mathlib.Core.Path.{_≡_};
+ghost use lib.IntN.{pos, negsuc, negℤ, natAbs};
 ghost use Rattle.word.specs.Word.{sum, difference, product, negation, andBits, orBits, xorBits, notBits};
-ghost use Rattle.word.specs.Word.{signed, word, related, relatedToZero, comparison, quotient, power, shiftLeft, shiftRight};
+ghost use Rattle.word.specs.Word.{signed, word, related, relatedToZero, comparison, rounded, quotient, power, shiftLeft, shiftRight};
 ghost use Rattle.word_arithmetic.specs.Answers.{outcome};
-ghost use Rattle.word_arithmetic.specs.Internal.{PowerOf};
+ghost use Rattle.word_arithmetic.specs.Internal.{outward as spec-outward, PowerOf};
 
 // What an operation that may fault answers. specs/Answers.antt gives each case its number.
 pub enum Answer {
@@ -126,6 +127,34 @@ pub fn to_zero(relation: Relation, a: u32) -> bool
     }
 }
 
+// -|x|: below zero the least word has its size too.
+fn minus_size(x: i32) -> i32
+    ensures { λ r. ⌜ r ≡ negℤ (pos (natAbs x)) ⌝ }
+{
+    if 0 < x { 0 - x } else { x }
+}
+
+// The step from x / y away from zero: 1 where both are below zero or neither is, else -1.
+fn outward(x: i32, y: i32) -> i32
+    ensures { λ r. ⌜ r ≡ spec-outward x y ⌝ }
+{
+    if (x < 0) == (y < 0) { 1 } else { -1 }
+}
+
+// x / y rounded: the quotient toward zero or, where the rest is half of y or more, the next one away from zero.
+fn nearest(x: i32, y: i32) -> i32
+    requires { ⌜ (y ≡ pos 0 → ⊥) × (y ≡ negsuc 0 → ⊥) ⌝ }
+    ensures { λ r. ⌜ r ≡ rounded x y ⌝ }
+{
+    let toward_zero = x / y;
+    let rest = minus_size(x % y);
+    let mut step = outward(x, y);
+    if minus_size(y) - rest < rest {
+        step = 0;
+    }
+    toward_zero + step
+}
+
 // Division by -1 is the negation, so that the least word's quotient wraps to itself; every other quotient is a word.
 pub fn div(a: u32, b: u32) -> Answer
     ensures { λ r. ⌜ outcome r ≡ quotient a b ⌝ }
@@ -136,9 +165,7 @@ pub fn div(a: u32, b: u32) -> Answer
     if b == 4294967295 {
         return Answer::Value(neg(a));
     }
-    let x = to_signed(a);
-    let y = to_signed(b);
-    Answer::Value(to_word(x / y))
+    Answer::Value(to_word(nearest(to_signed(a), to_signed(b))))
 }
 
 // A power, and the number of products that it took.

@@ -1,10 +1,12 @@
 use borrow.Author.Needs.{needs}
 use borrow.Author.Tests.{ne-eqb}
-use mathlib.Core.Path.{ap, sym, _∙_}
+use mathlib.Core.Path.{ap, ap₂, sym, _∙_}
 use Rattle.base.specs.Choice.{pick}
 use Rattle.base.proofs.Cases.{cases}
-use Rattle.word.specs.Word.{quotient, value, word}
-use Rattle.word.proofs.Quotient.{word-by-minus-one, divisor-bits, quotient-fits, quotient-held}
+use Rattle.word.specs.Word.{rounded, quotient, value, word}
+use Rattle.word.proofs.SignedType.{held}
+use Rattle.word.proofs.Quotient.{word-by-minus-one, signed-not-zero, signed-not-minus-one}
+use Rattle.word_arithmetic.proofs.Rounding.{rounded-held}
 use Rattle.word_arithmetic.proofs.div.Statement.{statement}
 use Rattle.word_arithmetic.proofs.div.Tie as tie
 
@@ -18,27 +20,28 @@ returns-2 c =
     let s = c .before .before .before in
     rw (c .before .if2 .taken) (ap value (c .neg .ensures ∙ sym (word-by-minus-one (s .args .a) (s .fits .a .fits))))
 
-div-to-word : tie.Need-div-to-word
-div-to-word c =
-    let s = c .before .before .before .before in
-    let zero-not = c .before .before .before .if1 .left in
-    let one-not = c .before .before .if2 .left in
-    let is-a = c .before .to-signed .ensures in
-    let is-b = c .to-signed2 .ensures in (
-      divisor-bits _ _ _ _ (s .fits .a .fits) (s .fits .b .fits) is-a is-b zero-not one-not,
-      quotient-fits _ _ _ _ (s .fits .a .fits) (s .fits .b .fits) is-a is-b zero-not one-not,
-    )
+nearest-requires : tie.Need-nearest-requires
+nearest-requires c κs =
+    let d = c .before .before in
+    let s = d .before .before in
+    let b = s .args .b in
+    let h = s .fits .b .fits in
+    let e = held b _ h (c .to-signed2 .ensures) in
+    (λ z. signed-not-zero b h (d .before .if1 .left) (sym e ∙ z), λ m. signed-not-minus-one b h (d .if2 .left) (sym e ∙ m))
 
 returns-3 : tie.Need-returns-3
 unfolding quotient pick
 returns-3 c =
-    let d = c .before .before .before in
+    let n = c .before in
+    let d = n .before .before .before in
     let s = d .before .before in
-    rw (ne-eqb (s .args .b) 0 (d .before .if1 .left))
-    (ap value
-    (c .to-word .ensures
-    ∙ ap word
-    (quotient-held (s .args .a) (s .args .b) _ _ (s .fits .a .fits) (s .fits .b .fits) (c .before .before .to-signed .ensures) (c .before .to-signed2 .ensures) (d .before .if1 .left) (d .if2 .left))))
+    let a = s .args .a in
+    let b = s .args .b in
+    let h = s .fits .a .fits in
+    let k = s .fits .b .fits in
+    let not-zero = d .before .if1 .left in
+    let e = n .nearest .ensures ∙ ap₂ rounded (held a _ h (n .before .before .to-signed .ensures)) (held b _ k (n .before .to-signed2 .ensures)) in
+    rw (ne-eqb b 0 not-zero) (ap value (c .to-word .ensures ∙ ap word (rounded-held a b _ h k not-zero (d .if2 .left) e)))
 
 pub div-spec : {M : Type 1} → statement M
 div-spec =
@@ -49,6 +52,6 @@ div-spec =
     returns-2
     (λ c κs. search needs)
     (λ c κs. search needs)
-    div-to-word
+    nearest-requires
     (λ c κs. search needs)
     returns-3)
