@@ -1,6 +1,7 @@
 //! The meaning of a program, laid down on its instructions and the word arithmetic. No order
 //! appears in it: the counts are those of document 01's rules for each form.
 
+use crate::rests::Rests;
 use crate::sheet::{closings, Expression, Line, Operator, Relation, Sheet, Sign, Simple};
 
 /// How a program ends, with document 01's numbers of faults and `skimp_run`'s number of a stop.
@@ -33,6 +34,8 @@ pub struct Meaning<'a> {
     pub ending: Option<Ending>,
     /// How often each operator gave a value.
     pub operations: [usize; 10],
+    /// What its divisions left.
+    pub rests: Rests,
     /// How often each relation failed and held.
     pub comparisons: [[usize; 2]; 6],
     /// How often the way from one instruction to the next led over one SKIP, two, or more.
@@ -56,6 +59,7 @@ impl<'a> Meaning<'a> {
             begun: 0,
             ending: None,
             operations: [0; 10],
+            rests: Rests::default(),
             comparisons: [[0; 2]; 6],
             skips: [0; 3],
         }
@@ -164,6 +168,9 @@ impl<'a> Meaning<'a> {
                 let (left, right) = self.operands(left, right)?;
                 let value = combined(*operator, left, right)?;
                 self.operations[*operator as usize] += 1;
+                if *operator == Operator::Div {
+                    self.rests.add(left, right);
+                }
                 value
             }
         };
@@ -203,7 +210,7 @@ fn combined(operator: Operator, left: i32, right: i32) -> Result<i32, Ending> {
         Operator::Sub => left.wrapping_sub(right),
         Operator::Mul => left.wrapping_mul(right),
         Operator::Div if right == 0 => return Err(Ending::ZeroDivisor),
-        Operator::Div => left.wrapping_div(right),
+        Operator::Div => nearest(left, right),
         Operator::Pow => left.wrapping_pow(count.map_err(|_| Ending::NegativeExponent)?),
         Operator::Shl => ((left as u32) << shift?) as i32,
         Operator::Shr => ((left as u32) >> shift?) as i32,
@@ -211,6 +218,21 @@ fn combined(operator: Operator, left: i32, right: i32) -> Result<i32, Ending> {
         Operator::Or => left | right,
         Operator::Xor => left ^ right,
     })
+}
+
+/// Request L3's quotient, "the nearest whole number, halves away from zero": of the two whole numbers
+/// about it the one whose product lies nearer to the dividend, or as near and farther from zero. The
+/// least word divided by -1 wraps.
+fn nearest(dividend: i32, divisor: i32) -> i32 {
+    let (dividend, divisor) = (i64::from(dividend), i64::from(divisor));
+    let inner = dividend / divisor;
+    let outer = inner + dividend.signum() * divisor.signum();
+    let distance = |quotient: i64| (dividend - quotient * divisor).abs();
+    if distance(outer) <= distance(inner) {
+        outer as i32
+    } else {
+        inner as i32
+    }
 }
 
 /// "Comparison is signed and never wraps."

@@ -1,10 +1,10 @@
-//! The rules of document 01 in plain Rust, with the groups of request L1. The tests compare the
-//! archives with it, and the benchmark measures the archive's calls against its own, so they are
-//! written for speed. It shares no code with the archives.
+//! The rules of document 01 in plain Rust, with the groups of request L1 and the rounded division of
+//! request L3. The tests compare the archives with it, and the benchmark measures the archive's calls
+//! against its own, so they are written for speed. It shares no code with the archives.
 //!
 //! Besides the rules there is what the tests of this workspace share: random numbers, sheets and
 //! sources (`random`, `generate`, `writing`), damaged objects (`damage`), what was covered
-//! (`census`), runs held to a meaning (`runs`), and calls held to the rules (`agree`).
+//! (`census`, `rests`), runs held to a meaning (`runs`), and calls held to the rules (`agree`).
 
 #![forbid(unsafe_code)]
 
@@ -18,6 +18,7 @@ pub mod interpret;
 mod machine;
 pub mod object;
 pub mod random;
+pub mod rests;
 pub mod runs;
 pub mod sheet;
 pub mod source;

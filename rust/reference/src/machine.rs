@@ -88,7 +88,7 @@ impl State {
             Name::Sub => acc = acc.wrapping_sub(value),
             Name::Mlt => acc = acc.wrapping_mul(value),
             Name::Div if value == 0 => return ZERO_DIVISOR,
-            Name::Div => acc = (acc as i32).wrapping_div(value as i32) as u32,
+            Name::Div => acc = rounded_quotient(acc, value),
             Name::Exp if (value as i32) < 0 => return NEGATIVE_EXPONENT,
             Name::Exp => acc = acc.wrapping_pow(value),
             Name::Shl | Name::Shr if value > 31 => return SHIFT_COUNT,
@@ -150,6 +150,24 @@ impl Order {
         } else {
             word
         }
+    }
+}
+
+/// The quotient of two words, to the nearest whole number, halves away from zero. Their sizes are
+/// divided, so that one unsigned division does for all signs. The least word by -1 is its size, which
+/// is its pattern.
+#[inline(always)]
+fn rounded_quotient(dividend: u32, divisor: u32) -> u32 {
+    let size = (dividend as i32).unsigned_abs();
+    let divisor_size = (divisor as i32).unsigned_abs();
+    let (quotient, rest) = (size / divisor_size, size % divisor_size);
+    // the rest is less than 2^31, so that twice of it fits
+    let rounded = quotient + u32::from(2 * rest >= divisor_size);
+    let is_negative = ((dividend ^ divisor) as i32) < 0;
+    if is_negative {
+        rounded.wrapping_neg()
+    } else {
+        rounded
     }
 }
 

@@ -41,6 +41,25 @@ impl Random {
         }
     }
 
+    /// A dividend and its divisor, of which it leaves half, or about one more or less.
+    pub fn about_half(&mut self) -> (i32, i32) {
+        loop {
+            let divisor = match self.below(4) {
+                0 => self.pattern() as i32,
+                1 => self.bits() as i32 >> self.below(32),
+                _ => self.between(1, 20) as i32 * self.pick(&[1, -1]),
+            };
+            let word = self.bits() as i32 >> self.below(32);
+            // Rust gives no remainder for the least word by -1, where it is 0
+            let multiple = word - word.checked_rem(divisor).unwrap_or(0);
+            let half = i64::from(divisor / 2) + self.below(3) as i64 - 1;
+            match i32::try_from(i64::from(multiple) + half) {
+                Ok(dividend) if divisor != 0 => return (dividend, divisor),
+                _ => {}
+            }
+        }
+    }
+
     pub fn bytes(&mut self, length: usize) -> Vec<u8> {
         (0..length).map(|_| self.bits() as u8).collect()
     }

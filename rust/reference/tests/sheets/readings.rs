@@ -10,15 +10,15 @@ fn word(word: u32) -> Expression {
     Expression::Word(word)
 }
 
-fn number(number: u32) -> Expression {
+pub fn number(number: u32) -> Expression {
     Expression::Constant(number)
 }
 
-fn binary(operator: Operator, left: Expression, right: Expression) -> Expression {
+pub fn binary(operator: Operator, left: Expression, right: Expression) -> Expression {
     Expression::Binary(operator, Box::new(left), Box::new(right))
 }
 
-fn unary(sign: Sign, operand: Expression) -> Expression {
+pub fn unary(sign: Sign, operand: Expression) -> Expression {
     Expression::Unary(sign, Box::new(operand))
 }
 
@@ -95,25 +95,26 @@ fn worked_program() {
     assert_eq!(untranslate(&translation).as_ref(), Some(&sheet));
 }
 
-/// The counts of the worked program: 2 orders, 9, then LOAD, CMP and BLE, JMP, 2, and STOP.
+/// The counts of the worked program: 2 orders, 9, then LOAD, CMP and BLE, 2 and the SKIP behind
+/// them, 2, and STOP. Request L3: "the worked program now sends 5, then 3, in 20 steps."
 #[test]
 fn worked_meaning() {
     let sheet = worked();
-    let mut meaning = Meaning::new(&sheet, 1);
+    let mut meaning = Meaning::new(&sheet, 2);
     let counts: Vec<u64> = (0..7)
         .map(|_| {
             meaning.advance();
             meaning.count
         })
         .collect();
-    assert_eq!(counts, [2, 11, 14, 15, 17, 18, 18]);
-    assert_eq!(meaning.variables, [3, 4]);
-    assert_eq!(meaning.sent, [3]);
+    assert_eq!(counts, [2, 11, 14, 17, 19, 20, 20]);
+    assert_eq!(meaning.variables, [3, 5]);
+    assert_eq!(meaning.sent, [5, 3]);
     assert_eq!(meaning.ending, Some(Ending::Stopped));
 }
 
 /// What an expression of words is worth, with the orders before STR or before its fault.
-fn worth(value: Expression) -> (Result<i32, Ending>, u64) {
+pub fn worth(value: Expression) -> (Result<i32, Ending>, u64) {
     let sheet = Sheet {
         variables: 1,
         lines: vec![set(2, value)],
@@ -133,8 +134,8 @@ fn readings_of_document_01() {
     let minus = |value| unary(Sign::Neg, value);
     let not = |value| unary(Sign::Not, value);
     for (value, expected) in [
-        (minus(binary(Div, number(7), number(2))), (Ok(-3), 3)),
-        (binary(Div, minus(number(7)), number(2)), (Ok(-3), 3)),
+        (minus(binary(Div, number(7), number(2))), (Ok(-4), 3)),
+        (binary(Div, minus(number(7)), number(2)), (Ok(-4), 3)),
         (binary(Add, most(), number(1)), (Ok(i32::MIN), 2)),
         (minus(not(most())), (Ok(i32::MIN), 3)),
         (binary(Pow, number(0), number(0)), (Ok(1), 2)),
