@@ -3,7 +3,7 @@
 use crate::object::{Order, STOP};
 use crate::object::{MOST_LEVELS, MOST_NUMBER, MOST_ORDERS, MOST_TEMPORARIES, MOST_VARIABLES};
 use crate::random::Random;
-use crate::sheet::{count, Expression, Line, Operator, Relation, Sheet, Simple};
+use crate::sheet::{count, Expression, Line, Operator, Relation, Sheet, Sign, Simple};
 use crate::sheet::{OPERATORS, RELATIONS, SIGNS};
 use crate::translate::without_limits;
 
@@ -322,6 +322,11 @@ impl Maker<'_> {
             return self.plain();
         }
         if self.random.once_in(6) {
+            if let Some(division) = self.division(orders, room) {
+                return division;
+            }
+        }
+        if self.random.once_in(6) {
             let operand = self.expression(orders - 1, room);
             return Expression::Unary(self.random.pick(&SIGNS).0, Box::new(operand));
         }
@@ -341,6 +346,31 @@ impl Maker<'_> {
             }
         }
         Expression::Binary(operator, Box::new(left), Box::new(right))
+    }
+
+    /// A division of numbers that leaves about half of the divisor, if there is one of `orders`
+    /// orders: each minus takes one, and that of a divisor temporaries too.
+    fn division(&mut self, orders: usize, room: u32) -> Option<Expression> {
+        let signs = match orders {
+            2 => [false, false],
+            3 => [true, false],
+            7 if room >= 2 => [false, true],
+            8 if room >= 2 => [true, true],
+            _ => return None,
+        };
+        let (dividend, divisor) = self.random.about_half();
+        let sizes = [dividend, divisor].map(i32::unsigned_abs);
+        if sizes.iter().any(|&size| size > MOST_NUMBER) {
+            return None;
+        }
+        let [left, right] = [0, 1].map(|side| {
+            let number = Box::new(Expression::Constant(sizes[side]));
+            match signs[side] {
+                true => Box::new(Expression::Unary(Sign::Neg, number)),
+                false => number,
+            }
+        });
+        Some(Expression::Binary(Operator::Div, left, right))
     }
 
     /// Two operands which, with the order on them, have `orders` orders.

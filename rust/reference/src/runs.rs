@@ -2,6 +2,7 @@
 
 use crate::count::counts;
 use crate::interpret::{Ending, Meaning};
+use crate::rests::Rests;
 use crate::sheet::{Sheet, OPERATORS, RELATIONS};
 use crate::translate::Translation;
 
@@ -23,6 +24,7 @@ pub struct Runs {
     /// How many programs ended with each number; 0 is for those that went on.
     pub endings: [usize; 21],
     operations: [usize; 10],
+    rests: Rests,
     comparisons: [[usize; 2]; 6],
     skips: [usize; 3],
 }
@@ -96,6 +98,7 @@ impl Runs {
         for (all, some) in self.operations.iter_mut().zip(meaning.operations) {
             *all += some;
         }
+        self.rests.add_all(&meaning.rests);
         for (all, some) in self.comparisons.iter_mut().zip(meaning.comparisons) {
             all[0] += some[0];
             all[1] += some[1];
@@ -105,8 +108,8 @@ impl Runs {
         }
     }
 
-    /// Holds every ending, operation and answer of a comparison, and one, two and more SKIPs in a
-    /// row, to having come `least` times.
+    /// Holds every ending, operation and answer of a comparison, all that a division may leave with
+    /// all signs, and one, two and more SKIPs in a row, to having come `least` times.
     pub fn every_way(&self, source: &str, least: usize) {
         for number in [0, 1, 2, 3, 4, 20] {
             let count = self.endings[number];
@@ -118,6 +121,7 @@ impl Runs {
         for ((_, sign), count) in OPERATORS.iter().zip(self.operations) {
             assert!(count >= least, "{source}: {sign} was done {count} times");
         }
+        self.rests.every_way(source, least);
         for ((_, sign), [failed, held]) in RELATIONS.iter().zip(self.comparisons) {
             assert!(failed >= least, "{source}: {sign} failed {failed} times");
             assert!(held >= least, "{source}: {sign} held {held} times");
