@@ -83,7 +83,8 @@ macro_rules! partial {
 }
 
 partial! {
-    /// The quotient without its remainder. The least word divided by -1 is itself.
+    /// The quotient, rounded to the nearest whole number, halves away from zero. The least word
+    /// divided by -1 is itself.
     div(a, b) = word_probe_div;
     /// `a` to the power `n`, which wraps.
     pow(a, n) = word_probe_pow;

@@ -53,8 +53,45 @@ const EDGES: [i32; 72] = [
     i32::MIN, i32::MIN + 1, i32::MIN + 2, i32::MIN + 7, i32::MIN + 8,
 ];
 
+/// Dividends, divisors and quotients, worked out by hand.
+#[rustfmt::skip]
+const QUOTIENTS: [(i32, i32, i32); 65] = [
+    (7, 2, 4), (-7, 2, -4), (7, -2, -4), (-7, -2, 4),
+    (5, 2, 3), (-5, 2, -3), (5, -2, -3), (-5, -2, 3),
+    (1, 2, 1), (-1, 2, -1), (1, -2, -1), (-1, -2, 1),
+    (3, 2, 2), (-3, 2, -2), (3, -2, -2), (-3, -2, 2),
+    (1, 3, 0), (-1, 3, 0), (1, -3, 0), (-1, -3, 0),
+    (2, 3, 1), (-2, 3, -1), (2, -3, -1), (-2, -3, 1),
+    (4, 3, 1), (-4, 3, -1), (4, -3, -1), (-4, -3, 1),
+    (5, 3, 2), (-5, 3, -2), (5, -3, -2), (-5, -3, 2),
+    (0, 1, 0), (0, -1, 0), (0, 2, 0), (0, i32::MAX, 0), (0, i32::MIN, 0),
+    (i32::MIN, -1, i32::MIN), (i32::MIN, 1, i32::MIN), (i32::MAX, -1, -2147483647),
+    (i32::MIN, 2, -1073741824), (i32::MIN, -2, 1073741824),
+    (i32::MIN, 3, -715827883), (i32::MIN, -3, 715827883),
+    (i32::MAX, 2, 1073741824), (i32::MAX, -2, -1073741824),
+    (-2147483647, 2, -1073741824), (-2147483647, -2, 1073741824),
+    (i32::MAX, 3, 715827882), (i32::MAX, -3, -715827882),
+    (i32::MIN, i32::MIN, 1), (i32::MIN, i32::MAX, -1), (i32::MIN, -2147483647, 1),
+    (i32::MAX, i32::MIN, -1), (-2147483647, i32::MIN, 1),
+    (1073741823, i32::MIN, 0), (1073741824, i32::MIN, -1), (1073741825, i32::MIN, -1),
+    (-1073741823, i32::MIN, 0), (-1073741824, i32::MIN, 1), (-1073741825, i32::MIN, 1),
+    (1073741823, i32::MAX, 0), (1073741824, i32::MAX, 1),
+    (1073741823, 2147483646, 1), (1073741822, 2147483646, 0),
+];
+
+/// Divisors about which dividends are chosen that leave half of them, or nearly so.
+#[rustfmt::skip]
+const DIVISORS: [i32; 46] = [
+    1, 2, 3, 4, 5, 6, 7, 8, 9, 10, 99, 100, 65535, 65536, 46341,
+    -1, -2, -3, -4, -5, -6, -7, -8, -9, -10, -99, -100, -65535, -65536, -46341,
+    0x3FFF_FFFF, 0x4000_0000, 0x4000_0001, -0x3FFF_FFFF, -0x4000_0000, -0x4000_0001,
+    0x5555_5554, 0x5555_5555, i32::MAX - 2, i32::MAX - 1, i32::MAX,
+    i32::MIN, i32::MIN + 1, i32::MIN + 2, i32::MIN + 3, -0x5555_5556,
+];
+
 const RANDOM_PAIRS: usize = 1_000_000;
 const SEED: u64 = 1;
+const HALVES_SEED: u64 = 2;
 
 /// The generator splitmix64.
 struct Random(u64);
@@ -97,7 +134,29 @@ impl Random {
         };
         (a, b)
     }
+
+    /// A divisor, and a multiple of it with half of it, or one more or less.
+    fn about_half(&mut self) -> (i32, i32) {
+        loop {
+            let b = match self.between(0, 3) {
+                0 => self.word() >> self.between(0, 31),
+                1 => self.edge(),
+                _ => self.between(-40, 40),
+            };
+            let word = self.word() >> self.between(0, 31);
+            // Rust gives no remainder by 0, nor for the least word by -1, where it is 0
+            let multiple = word - word.checked_rem(b).unwrap_or(0);
+            let half = i64::from(b / 2) + i64::from(self.between(-1, 1));
+            if let Ok(a) = i32::try_from(i64::from(multiple) + half) {
+                return (a, b);
+            }
+        }
+    }
 }
+
+/// Divisions are tallied of which twice the rest is at most so much more or less than the divisor.
+/// With an odd divisor the difference is odd.
+const NEAR: i64 = 2;
 
 /// What was met.
 #[derive(Default)]
@@ -105,6 +164,9 @@ struct Tally {
     pairs: usize,
     /// For each of PARTIAL, how many values and how many of each fault.
     answers: [[usize; 4]; PARTIAL.len()],
+    /// For each sign of dividend and divisor, how many divisions left half of the divisor or nearly
+    /// so, by that difference.
+    halves: [[usize; 2 * NEAR as usize + 1]; 4],
     /// How many comparisons gave -1, 0 and 1.
     orders: [usize; 3],
     /// For each of RELATIONS, how often it failed and how often it held.
@@ -147,6 +209,27 @@ impl Tally {
             let number = got.err().unwrap_or(0) as usize;
             self.answers[index][number] += 1;
         }
+        self.add_half(a, b);
+    }
+
+    /// Counts a division that leaves something, if that is about half of the divisor.
+    fn add_half(&mut self, a: i32, b: i32) {
+        let (size, divisor) = (i64::from(a).abs(), i64::from(b).abs());
+        let rest = size.checked_rem(divisor).unwrap_or(0);
+        let distance = 2 * rest - divisor;
+        if rest > 0 && distance.abs() <= NEAR {
+            let signs = 2 * usize::from(a < 0) + usize::from(b < 0);
+            self.halves[signs][(distance + NEAR) as usize] += 1;
+        }
+    }
+
+    /// Holds halves of each sign, and what lies about them, to having been met `least` times.
+    fn meets_halves(&self, source: &str, least: usize) {
+        let halves = self.halves;
+        assert!(
+            halves.as_flattened().iter().all(|&count| count >= least),
+            "{source}: halves and about them, for each sign: {halves:?}"
+        );
     }
 
     /// Holds the tally to the promised number of pairs, and to every kind of answer being met.
@@ -158,6 +241,7 @@ impl Tally {
             assert!(faults > 0, "{source}: no fault {fault} of {name}");
             assert_eq!(values + faults, pairs, "{source}: another fault of {name}");
         }
+        self.meets_halves(source, 1);
         for (order, count) in (-1..=1).zip(self.orders) {
             assert!(count > 0, "{source}: no comparison gave {order}");
         }
@@ -197,12 +281,46 @@ fn random_pairs() {
     tally.finish(&source, 1_000_000);
 }
 
-/// The arithmetic readings of document 01, of the archive.
+/// Dividends that leave half of their divisor, or up to two more or less: a multiple of it and half
+/// of it, where that is a word.
+#[test]
+fn about_every_half() {
+    let source = "halves of divisors";
+    let mut tally = Tally::default();
+    for b in DIVISORS {
+        let most = i64::from(i32::MAX) / i64::from(b).abs();
+        let quotients = (-4..=4).chain([-most, -most / 2, most / 2, most]);
+        for multiple in quotients.map(|quotient| quotient * i64::from(b)) {
+            let near = (-2..=2).map(|step| multiple + i64::from(b / 2) + step);
+            for a in near.filter_map(|a| i32::try_from(a).ok()) {
+                tally.check(source, a, b);
+            }
+        }
+    }
+    // a zero divisor, which is no half's
+    tally.check(source, 1, 0);
+    tally.finish(source, 2402);
+}
+
+#[test]
+fn random_halves() {
+    let source = format!("halves, seed {HALVES_SEED}");
+    let mut random = Random(HALVES_SEED);
+    let mut tally = Tally::default();
+    for _ in 0..RANDOM_PAIRS {
+        let (a, b) = random.about_half();
+        tally.check(&source, a, b);
+    }
+    tally.finish(&source, 1_000_000);
+    tally.meets_halves(&source, 10_000);
+}
+
+/// The arithmetic readings of document 01, with those of request L3, of the archive.
 #[test]
 fn readings_of_document_01() {
     // -7/2, as -(7/2) and as (-7)/2
-    assert_eq!(div(7, 2).map(neg), Ok(-3));
-    assert_eq!(div(neg(7), 2), Ok(-3));
+    assert_eq!(div(7, 2).map(neg), Ok(-4));
+    assert_eq!(div(neg(7), 2), Ok(-4));
     // 2147483647+1
     assert_eq!(add(2147483647, 1), -2147483648);
     // -(\2147483647)
@@ -224,6 +342,17 @@ fn readings_of_document_01() {
     assert_eq!(shl(1, 32), Err(Fault::ShiftCount));
     // 2147483647 is not below \2147483647
     assert_eq!(cmp(2147483647, not(2147483647)), 1);
+}
+
+/// Quotients worked out by hand, of the archive.
+#[test]
+fn quotients_by_hand() {
+    for (a, b, quotient) in QUOTIENTS {
+        assert_eq!(div(a, b), Ok(quotient), "{a}/{b}");
+    }
+    for a in EDGES {
+        assert_eq!(div(a, 0), Err(Fault::ZeroDivisor), "{a}/0");
+    }
 }
 
 /// The reference on values worked out by hand. The archive has no part in it.
@@ -264,14 +393,12 @@ fn reference_by_hand() {
         assert_eq!(reference::to_zero(sign, 2147483647), of_plus, "{sign}");
     }
 
-    assert_eq!(reference::div(7, 2), Ok(3));
-    assert_eq!(reference::div(-7, 2), Ok(-3));
-    assert_eq!(reference::div(7, -2), Ok(-3));
-    assert_eq!(reference::div(-7, -2), Ok(3));
-    assert_eq!(reference::div(-2147483648, -1), Ok(-2147483648));
-    assert_eq!(reference::div(-2147483648, 2), Ok(-1073741824));
-    assert_eq!(reference::div(5, -2147483648), Ok(0));
-    assert_eq!(reference::div(0, 0), Err(1));
+    for (a, b, quotient) in QUOTIENTS {
+        assert_eq!(reference::div(a, b), Ok(quotient), "{a}/{b}");
+    }
+    for a in EDGES {
+        assert_eq!(reference::div(a, 0), Err(1), "{a}/0");
+    }
 
     assert_eq!(reference::pow(0, 0), Ok(1));
     assert_eq!(reference::pow(0, 1), Ok(0));

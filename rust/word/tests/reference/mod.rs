@@ -87,13 +87,21 @@ pub fn to_zero(relation: &str, a: i32) -> bool {
     }
 }
 
+/// The nearest whole number to the quotient, and of two as near the one farther from zero. Rust
+/// rounds a fraction of its own so, too, and 64 bits hold it closely enough: a quotient of words that
+/// is no half is farther from one than the fraction can be off.
 pub fn div(a: i32, b: i32) -> Result<i32, u32> {
     if b == 0 {
         return Err(1);
     }
-    let size = i64::from(a.unsigned_abs() / b.unsigned_abs());
-    let quotient = if (a < 0) == (b < 0) { size } else { -size };
-    Ok(agreed("div", a, b, wrap(quotient), a.wrapping_div(b)))
+    let (dividend, divisor) = (i64::from(a), i64::from(b));
+    let about = dividend / divisor;
+    let distance = |quotient: i64| (dividend - quotient * divisor).abs();
+    let nearest = (about - 1..=about + 1)
+        .min_by_key(|&quotient| (distance(quotient), -quotient.abs()))
+        .expect("three numbers");
+    let rounded = (f64::from(a) / f64::from(b)).round() as i64;
+    Ok(agreed("div", a, b, wrap(nearest), wrap(rounded)))
 }
 
 pub fn pow(a: i32, n: i32) -> Result<i32, u32> {
