@@ -1,11 +1,13 @@
 //! Each order by itself.
 
 use skimp_reference::random::{Random, EDGES};
+use skimp_reference::rests::Rests;
 
 use crate::call::Call;
 use crate::program::{order, state, Order, Program, WITH_ADDRESS, WITH_NOTHING, WITH_VALUE};
 
 const RANDOM_PAIRS: usize = 300;
+const HALVES: usize = 4000;
 /// Where the order stands, and where it leads if it is a jump.
 const PLACE: u32 = 1;
 const TARGET: u32 = 3;
@@ -94,4 +96,25 @@ fn every_order_on_edges_and_random_words() {
         assert_eq!(faults > 0, may_fault, "{name} {kind}: {faults} faults");
         assert!(clear >= 100, "{name} {kind}: {clear} without a fault");
     }
+}
+
+/// Dividends that leave about half of the word or the number by which they are divided.
+#[test]
+fn divisions_about_halves() {
+    let mut random = Random(7);
+    let mut rests = Rests::default();
+    let mut by_numbers = 0;
+    for _ in 0..HALVES {
+        let (dividend, divisor) = random.about_half();
+        let (acc, operand) = (dividend as u32, divisor as u32);
+        assert_eq!(run_alone("DIV", 'D', acc, operand, 0), 0);
+        rests.add(dividend, divisor);
+        // a number in the object has no sign
+        if divisor > 0 {
+            assert_eq!(run_alone("DIV", 'K', acc, operand, 0), 0);
+            by_numbers += 1;
+        }
+    }
+    rests.every_way("divisions about halves, seed 7", 50);
+    assert!(by_numbers >= HALVES / 4, "{by_numbers} by numbers");
 }

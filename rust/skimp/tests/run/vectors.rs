@@ -24,9 +24,13 @@ fn object(orders: &[&str]) -> Vec<u8> {
 
 const LEAST: u32 = 0x8000_0000;
 const MOST: u32 = 0x7FFF_FFFF;
+/// Half of the least word's size.
+const HALF: u32 = 0x4000_0000;
 const MINUS_1: u32 = 1_u32.wrapping_neg();
 const MINUS_2: u32 = 2_u32.wrapping_neg();
 const MINUS_3: u32 = 3_u32.wrapping_neg();
+const MINUS_4: u32 = 4_u32.wrapping_neg();
+const MINUS_5: u32 = 5_u32.wrapping_neg();
 const MINUS_7: u32 = 7_u32.wrapping_neg();
 const MINUS_8: u32 = 8_u32.wrapping_neg();
 const MINUS_21: u32 = 21_u32.wrapping_neg();
@@ -40,12 +44,13 @@ fn worked_object_is_that_of_document_01() {
     assert_eq!(WORKED, text.as_bytes());
 }
 
+/// Request L3: "the worked program now sends 5, then 3, in 20 steps."
 #[test]
 fn worked_object() {
-    let run = call(WORKED, state(0, 0, 0, 0, &[0; 6]), vec![0x77; 6], 1000);
-    assert_eq!((run.number, run.value), (20, 18));
-    assert_eq!(run.output, [0, 0, 0, 3, 0x77, 0x77]);
-    let last = state(3, 20, 1, 20, &[0, 0, 3, 4, 3, MINUS_1]);
+    let run = call(WORKED, state(0, 0, 0, 0, &[0; 6]), vec![0x77; 10], 1000);
+    assert_eq!((run.number, run.value), (20, 20));
+    assert_eq!(run.output, [0, 0, 0, 5, 0, 0, 0, 3, 0x77, 0x77]);
+    let last = state(3, 20, 2, 20, &[0, 0, 3, 5, 3, MINUS_2]);
     assert_eq!(run.state, last);
     // it has ended, and says so again
     let again = call(WORKED, last.clone(), run.output.clone(), 1000);
@@ -55,21 +60,30 @@ fn worked_object() {
 
 #[test]
 fn worked_object_with_each_budget() {
-    for budget in 0..=20 {
-        let run = call(WORKED, state(0, 0, 0, 0, &[0; 6]), vec![0x77; 4], budget);
-        let expected = if budget < 18 { (0, budget) } else { (20, 18) };
+    for budget in 0..=22 {
+        let run = call(WORKED, state(0, 0, 0, 0, &[0; 6]), vec![0x77; 8], budget);
+        let expected = if budget < 20 { (0, budget) } else { (20, 20) };
         assert_eq!((run.number, run.value), expected, "budget {budget}");
-        let sent = if budget < 17 { [0x77; 4] } else { [0, 0, 0, 3] };
+        let sent = match budget {
+            0..=15 => [0x77; 8],
+            16..=18 => [0, 0, 0, 5, 0x77, 0x77, 0x77, 0x77],
+            _ => [0, 0, 0, 5, 0, 0, 0, 3],
+        };
         assert_eq!(run.output, sent, "budget {budget}");
     }
-    // after 13 steps CMP has been carried out: 4 equals 4
+    // after 13 steps CMP has been carried out: 5 is greater than 4
     let run = call(WORKED, state(0, 0, 0, 0, &[0; 6]), vec![], 13);
-    assert_eq!(run.state, state(0, 13, 0, 0, &[0, 0, 3, 4, 3, MINUS_1]));
-    // without room for a number, the 17th order carried out would be SEND
-    let run = call(WORKED, state(0, 0, 0, 0, &[0; 6]), vec![0x77; 3], 16);
-    assert_eq!((run.number, run.value), (4, 16));
-    assert_eq!(run.state, state(3, 19, 0, 4, &[0, 0, 3, 4, 3, MINUS_1]));
+    assert_eq!(run.state, state(1, 13, 0, 0, &[0, 0, 3, 5, 3, MINUS_2]));
+    // without room for a number, the 16th order carried out would be SEND
+    let run = call(WORKED, state(0, 0, 0, 0, &[0; 6]), vec![0x77; 3], 15);
+    assert_eq!((run.number, run.value), (4, 15));
+    assert_eq!(run.state, state(5, 15, 0, 4, &[0, 0, 3, 5, 3, MINUS_2]));
     assert_eq!(run.output, [0x77; 3]);
+    // with room for one, the 19th
+    let run = call(WORKED, state(0, 0, 0, 0, &[0; 6]), vec![0x77; 7], 1000);
+    assert_eq!((run.number, run.value), (4, 18));
+    assert_eq!(run.state, state(3, 19, 1, 4, &[0, 0, 3, 5, 3, MINUS_2]));
+    assert_eq!(run.output, [0, 0, 0, 5, 0x77, 0x77, 0x77]);
 }
 
 /// The accumulator after one order on it and the word 2, whose result or fault is given.
@@ -93,20 +107,47 @@ fn on_words(name: &str, acc: u32, word: u32) -> Result<u32, u32> {
 }
 
 /// An order, the accumulator, the word, and the accumulator after it or its fault.
-const ARITHMETIC: [(&str, u32, u32, Result<u32, u32>); 35] = [
+const ARITHMETIC: [(&str, u32, u32, Result<u32, u32>); 62] = [
     ("LOAD", 5, MINUS_1, Ok(MINUS_1)),
     ("ADD", MOST, 1, Ok(LEAST)),
     ("SUB", 2, 5, Ok(MINUS_3)),
     ("SUB", LEAST, 1, Ok(MOST)),
     ("MLT", 65536, 65536, Ok(0)),
     ("MLT", MINUS_3, 7, Ok(MINUS_21)),
-    ("DIV", MINUS_7, 2, Ok(MINUS_3)),
-    ("DIV", 7, MINUS_2, Ok(MINUS_3)),
-    ("DIV", MINUS_3, 2, Ok(MINUS_1)),
+    ("DIV", 7, 2, Ok(4)),
+    ("DIV", MINUS_7, 2, Ok(MINUS_4)),
+    ("DIV", 7, MINUS_2, Ok(MINUS_4)),
+    ("DIV", MINUS_7, MINUS_2, Ok(4)),
+    ("DIV", 5, 2, Ok(3)),
+    ("DIV", MINUS_5, 2, Ok(MINUS_3)),
+    ("DIV", 5, MINUS_2, Ok(MINUS_3)),
+    ("DIV", MINUS_5, MINUS_2, Ok(3)),
+    ("DIV", MINUS_3, 2, Ok(MINUS_2)),
+    ("DIV", 1, 2, Ok(1)),
+    ("DIV", MINUS_1, 2, Ok(MINUS_1)),
+    ("DIV", 1, 3, Ok(0)),
+    ("DIV", 2, 3, Ok(1)),
+    ("DIV", MINUS_2, 3, Ok(MINUS_1)),
+    ("DIV", 4, 3, Ok(1)),
+    ("DIV", 4, MINUS_3, Ok(MINUS_1)),
+    ("DIV", 0, MINUS_7, Ok(0)),
+    ("DIV", MOST, 2, Ok(HALF)),
+    ("DIV", LEAST, 2, Ok(HALF.wrapping_neg())),
+    ("DIV", LEAST, MINUS_2, Ok(HALF)),
+    ("DIV", LEAST, 3, Ok(715827883_u32.wrapping_neg())),
+    ("DIV", LEAST, MINUS_3, Ok(715827883)),
     ("DIV", LEAST, MINUS_1, Ok(LEAST)),
     ("DIV", LEAST, LEAST, Ok(1)),
+    ("DIV", LEAST, MOST, Ok(MINUS_1)),
+    ("DIV", MOST, LEAST, Ok(MINUS_1)),
+    ("DIV", HALF, LEAST, Ok(MINUS_1)),
+    ("DIV", HALF - 1, LEAST, Ok(0)),
+    ("DIV", HALF.wrapping_neg(), LEAST, Ok(1)),
+    ("DIV", HALF, MOST, Ok(1)),
+    ("DIV", HALF - 1, MOST, Ok(0)),
     ("DIV", 5, 0, Err(1)),
     ("DIV", 0, 0, Err(1)),
+    ("DIV", LEAST, 0, Err(1)),
     ("EXP", 0, 0, Ok(1)),
     ("EXP", 2, 31, Ok(LEAST)),
     ("EXP", 2, 32, Ok(0)),

@@ -38,16 +38,16 @@ fn worked_program() {
     assert_eq!(OBJECT.replace(' ', "\t").as_bytes(), file);
 }
 
-/// "It sends 3 in 18 steps."
+/// Request L3: "the worked program now sends 5, then 3, in 20 steps."
 #[test]
 fn worked_run() {
-    let (mut object, mut state, mut output) = ([0; 400], [0; 44], [0; 4]);
+    let (mut object, mut state, mut output) = ([0; 400], [0; 44], [0; 8]);
     let object = skimp::compile(WORKED.as_bytes(), &mut object).expect("a program");
     let reply = skimp::run(object, &mut state, &mut output, 1000);
-    assert_eq!((reply.number, reply.value), (20, 18));
-    assert_eq!(output, [0, 0, 0, 3]);
+    assert_eq!((reply.number, reply.value), (20, 20));
+    assert_eq!(output, [0, 0, 0, 5, 0, 0, 0, 3]);
     // words 2 and 3
-    assert_eq!(state[28..36], [0, 0, 0, 3, 0, 0, 0, 4]);
+    assert_eq!(state[28..36], [0, 0, 0, 3, 0, 0, 0, 5]);
 }
 
 /// V and T other than they are: no sheet, or a word outside the frame.

@@ -21,7 +21,7 @@ fn ended(status: i32, out: &str) -> Ran {
     }
 }
 
-/// "It sends 3 in 18 steps."
+/// Request L3: "the worked program now sends 5, then 3, in 20 steps."
 #[test]
 fn worked_program() {
     let session = Session::new();
@@ -29,7 +29,7 @@ fn worked_program() {
     let ran = session.skimp_with(&["run", "-"], &object);
     assert_eq!(
         ran,
-        done("sent: 3\nsteps: 18\nending: stopped\nW2 = 3\nW3 = 4\n")
+        done("sent: 5 3\nsteps: 20\nending: stopped\nW2 = 3\nW3 = 5\n")
     );
 }
 
