@@ -26,7 +26,7 @@ use page::Case;
 const PAGE: &str = include_str!("../../../../docs/REPORT.md");
 
 /// The page has so many cases, at least: one that is read as text would be missed otherwise.
-const LEAST_CASES: usize = 171;
+const LEAST_CASES: usize = 175;
 
 /// What the calls make of a case where it is not what the page says.
 fn difference(case: &Case) -> Option<String> {
@@ -59,7 +59,7 @@ fn cases_of_the_page() {
 fn wrong_lines_are_found() {
     let right = "```skimp\n%BEGIN;SEND(7/2)\n%ENDOFPROGRAM\n```\n```reply\n\
                  object BOX 0 0 4; LOAD K 7; DIV K 2;\n  SEND - 0; STOP - 0\n\
-                 sheet SHEET 0 1; SEND / K7 K2\nsends 3 in 4 steps, stopped\n```\n";
+                 sheet SHEET 0 1; SEND / K7 K2\nsends 4 in 4 steps, stopped\n```\n";
     let found = |page: &str| {
         let cases = page::cases(page).expect("a page in its form");
         assert_eq!(cases.len(), 1);
@@ -71,7 +71,7 @@ fn wrong_lines_are_found() {
         ("DIV K 2", "DIV K 3"),
         (" STOP - 0", ""),
         ("/ K7 K2", "/ K2 K7"),
-        ("sends 3 in", "sends 4 in"),
+        ("sends 4 in", "sends 3 in"),
         ("4 steps", "5 steps"),
         ("stopped", "fault 1"),
     ] {
