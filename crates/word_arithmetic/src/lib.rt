@@ -141,14 +141,15 @@ fn outward(x: i32, y: i32) -> i32
     if (x < 0) == (y < 0) { 1 } else { -1 }
 }
 
-// x / y rounded: the quotient toward zero or, where the rest is half of y or more, the next one away from zero.
+// x / y rounded: the quotient toward zero or, where the rest is half of y or more, the next one away from zero. The step comes
+// before the division, which leaves a machine few registers.
 fn nearest(x: i32, y: i32) -> i32
     requires { ⌜ (y ≡ pos 0 → ⊥) × (y ≡ negsuc 0 → ⊥) ⌝ }
     ensures { λ r. ⌜ r ≡ rounded x y ⌝ }
 {
+    let mut step = outward(x, y);
     let toward_zero = x / y;
     let rest = minus_size(x % y);
-    let mut step = outward(x, y);
     if minus_size(y) - rest < rest {
         step = 0;
     }

@@ -65,6 +65,40 @@ fn groups_in_the_manual() {
     assert!(rest.contains("It sends 124, 123 and -122."));
 }
 
+/// What a program of one statement after another, with variables A and B, sends.
+fn sent(statements: &str) -> Vec<i64> {
+    let session = Session::new();
+    let program = format!("%BEGIN\n%INTEGER A, B\n{statements}%ENDOFPROGRAM\n");
+    session.put("statements.skimp", &program);
+    let shown = printed(&session, "skimp compile statements.skimp | skimp run -");
+    let numbers = shown.lines().find_map(|line| line.strip_prefix("sent: "));
+    let numbers = numbers.unwrap_or_else(|| panic!("{shown}")).split(' ');
+    numbers
+        .map(|number| number.parse().expect(number))
+        .collect()
+}
+
+/// The quotients in the manual are what a program sends, and the expression that it gives for a
+/// quotient without its remainder drops that, up to the limit that it names.
+#[test]
+fn division_in_the_manual() {
+    let manual = text("docs/MANUAL.md");
+    for (quotient, value) in [("7/2", 4), ("-7/2", -4), ("1/3", 0), ("2/3", 1)] {
+        assert!(manual.contains(&format!("`{quotient}` is {value}")));
+        assert_eq!(sent(&format!("SEND({quotient})\n")), [value]);
+    }
+    let dropped = "(2*A - B + 1) / (2*B)";
+    assert!(manual.contains(&format!("`{dropped}`; A and B may be up to 1073741823")));
+    let (mut statements, mut expected) = (String::new(), Vec::new());
+    for a in [0, 1, 2, 3, 6, 7, 99, 1_073_741_823] {
+        for b in [1, 2, 3, 6, 7, 99, 1_073_741_823] {
+            statements += &format!("A = {a} ; B = {b} ; SEND({dropped})\n");
+            expected.push(a / b);
+        }
+    }
+    assert_eq!(sent(&statements), expected);
+}
+
 /// The command's words for each refusal are those of the manual page's example and of README.
 #[test]
 fn refusal_in_the_manual_page() {
