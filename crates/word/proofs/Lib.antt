@@ -1,4 +1,3 @@
-pub mod Readings
 pub mod Patterns
 pub mod Wrapping
 pub mod SignedType
@@ -8,3 +7,4 @@ pub mod Bits
 pub mod Comparison
 pub mod Closed
 pub mod Agreement
+pub mod Readings

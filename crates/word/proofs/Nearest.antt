@@ -1,5 +1,5 @@
 -- Rounded division on the integers: `rounded x y` is the nearest whole number to x / y, and no other is.
-use Prim.Native.Nat.{ℕ, zero, suc, _+_, _-_, _*_, _%_, _<_, _≤_}
+use Prim.Native.Nat.{ℕ, zero, suc, _+_, _-_, _*_, _/_, _%_, _<_, _≤_}
 use mathlib.Core.Path.{_≡_, refl, sym, ap, _∙_}
 use native.Mathlib.Omega.{arith}
 use native.Mathlib.Nat.{div-add-mod', mod-lt, mul-assoc, suc-mul, mul-le-mul-right, zero-mul, le-antisymm}
@@ -20,11 +20,17 @@ pub record Around (m n : ℕ) : Type 0 where
   pub low : roundedSize m n * n * 2 ≤ m * 2 + n
   pub high : m * 2 < roundedSize m n * n * 2 + n
 
+quotient-around : (q a d : ℕ) → q ≡ a / d → 0 < d → (q * d ≤ a) × (a < q * d + d)
+quotient-around q a d e h =
+    let whole : a / d * d + a % d ≡ a = div-add-mod' a d in
+    let rest : a % d < d = mod-lt a h in
+    rw e (omega arith, omega arith)
+
 pub around : (m n : ℕ) → 0 < n → Around m n
 around m n h =
-    let whole : roundedSize m n * n * 2 + (m * 2 + n) % (n * 2) ≡ m * 2 + n = rw (mul-assoc (roundedSize m n) n 2) (div-add-mod' (m * 2 + n) (n * 2)) in
-    let rest : (m * 2 + n) % (n * 2) < n * 2 = mod-lt (m * 2 + n) (omega arith) in
-    record { low = omega arith; high = omega arith }
+    let b = quotient-around (roundedSize m n) _ _ refl (omega arith) in
+    let twice : roundedSize m n * n * 2 ≡ roundedSize m n * (n * 2) = mul-assoc (roundedSize m n) n 2 in
+    record { low = omega (arith, b .0, b .1, twice); high = omega (arith, b .0, b .1, twice) }
 
 -- one multiple is n or more below the next
 pub below : (k l n : ℕ) → k < l → k * n + n ≤ l * n
