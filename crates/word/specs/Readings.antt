@@ -1,5 +1,5 @@
--- The arithmetic among document 01's starred readings, with the -7/2 of 02, L3, as one table. The expression stands beside each
--- line.
+-- Two tables: the arithmetic among document 01's starred readings, with the -7/2 of 02, L3, and the expression beside each line;
+-- and quotients of 02, L3.
 use Prim.Native.Nat.{ℕ}
 use mathlib.Core.Path.{_≡_}
 use mathlib.Core.List.{List, [], _∷_, map}

@@ -131,8 +131,8 @@ minus-order (suc a) (suc b) =
 
 -- ---- as the machine works them out: an i32 is kept as its bits and read from them
 
-abbrev pub held : ℤ → ℤ
-held x = toZ w32 (ofZ w32 x)
+abbrev pub stored : ℤ → ℤ
+stored x = toZ w32 (ofZ w32 x)
 
 bits-positive : (y : ℤ) → mag y < 2147483648 → (y ≡ pos 0 → ⊥) → 0 < word y
 unfolding word wrap
@@ -145,61 +145,61 @@ rest-size (pos a) y = refl
 rest-size (negsuc a) y = natAbs-opposite (pos (suc a % natAbs y))
 
 module _ (x y : ℤ) (fits-x : SFits w32 x) (fits-y : SFits w32 y) (not-these : (y ≡ pos 0 → ⊥) × (y ≡ negsuc 0 → ⊥)) where
-  toward-fits : SFits w32 (quotZ (held x) (held y))
+  toward-fits : SFits w32 (quotZ (stored x) (stored y))
   toward-fits =
       rw (toZ-ofZ fits-x, toZ-ofZ fits-y) (record { sfits = toward-zero-small x y (fits-x .sfits) (not-these .0) (not-these .1) })
 
-  pub can-divide : (0 < ofZ w32 y) × SFits w32 (quotZ (held x) (held y))
+  pub can-divide : (0 < ofZ w32 y) × SFits w32 (quotZ (stored x) (stored y))
   can-divide = (rw (word-ofZ y (fits-y .sfits)) (bits-positive y (fits-y .sfits) (not-these .0)), toward-fits)
 
-  toward : held (quotZ (held x) (held y)) ≡ quotZ x y
+  toward : stored (quotZ (stored x) (stored y)) ≡ quotZ x y
   toward = toZ-ofZ toward-fits ∙ rw (toZ-ofZ fits-x, toZ-ofZ fits-y) refl
 
-  rest-held : held (remZ (held x) (held y)) ≡ remZ x y
-  rest-held =
+  rest-stored : stored (remZ (stored x) (stored y)) ≡ remZ x y
+  rest-stored =
       rw (toZ-ofZ fits-x, toZ-ofZ fits-y) (toZ-ofZ (record { sfits = omega (arith, mag-rem x y, fits-x .sfits) }))
 
   divisor-size : 0 < natAbs y
   divisor-size = positive-size y (not-these .0)
 
   -- r and s are the sizes of the rest and of the divisor, below zero
-  module _ (r s : ℤ) (is-r : r ≡ negℤ (pos (natAbs (held (remZ (held x) (held y)))))) (is-s : s ≡ negℤ (pos (natAbs (held y)))) where
-    rest : held r ≡ negℤ (pos (natAbs x % natAbs y))
+  module _ (r s : ℤ) (is-r : r ≡ negℤ (pos (natAbs (stored (remZ (stored x) (stored y)))))) (is-s : s ≡ negℤ (pos (natAbs (stored y)))) where
+    rest : stored r ≡ negℤ (pos (natAbs x % natAbs y))
     rest =
-        let e : r ≡ negℤ (pos (natAbs (remZ x y))) = is-r ∙ ap (λ z. negℤ (pos (natAbs z))) rest-held in
+        let e : r ≡ negℤ (pos (natAbs (remZ x y))) = is-r ∙ ap (λ z. negℤ (pos (natAbs z))) rest-stored in
         rw e (toZ-ofZ (record { sfits = minus-small (remZ x y) (omega (arith, mag-rem x y, fits-x .sfits)) }))
         ∙ ap (λ k. negℤ (pos k)) (rest-size x y)
 
-    divisor : held s ≡ negℤ (pos (natAbs y))
+    divisor : stored s ≡ negℤ (pos (natAbs y))
     divisor =
         let e : s ≡ negℤ (pos (natAbs y)) = is-s ∙ ap (λ z. negℤ (pos (natAbs z))) (toZ-ofZ fits-y) in
         rw e (toZ-ofZ (record { sfits = minus-small y (fits-y .sfits) }))
 
-    left-over : held s -ℤ held r ≡ negℤ (pos (natAbs y - natAbs x % natAbs y))
+    left-over : stored s -ℤ stored r ≡ negℤ (pos (natAbs y - natAbs x % natAbs y))
     left-over =
         let l : natAbs x % natAbs y < natAbs y = mod-lt (natAbs x) divisor-size in
         rw (rest, divisor) (minus-difference (natAbs y) (natAbs x % natAbs y) (omega arith))
 
-    pub left-fits : SFits w32 (held s -ℤ held r)
+    pub left-fits : SFits w32 (stored s -ℤ stored r)
     left-fits =
         let n : natAbs y ≤ 2147483648 = natAbs-le y (fits-y .sfits) in
         let l = opposite-below (natAbs y - natAbs x % natAbs y) 2147483647 (omega arith) in
         rw left-over (record { sfits = omega (arith, l) })
 
-    test : ltZ (held (held s -ℤ held r)) (held r) ≡ ltb (natAbs x % natAbs y) (natAbs y - natAbs x % natAbs y)
+    test : ltZ (stored (stored s -ℤ stored r)) (stored r) ≡ ltb (natAbs x % natAbs y) (natAbs y - natAbs x % natAbs y)
     test = rw (toZ-ofZ left-fits, left-over, rest) (minus-order (natAbs y - natAbs x % natAbs y) (natAbs x % natAbs y))
 
     -- the bits of the step: 0 where less than half is left over, else those of the step away from zero
-    module _ (o : ℤ) (step : ℕ) (is-o : o ≡ outward (held x) (held y)) where
+    module _ (o : ℤ) (step : ℕ) (is-o : o ≡ outward (stored x) (stored y)) where
       abbrev pub Chosen : Type 0
       Chosen =
-          ((ltZ (held (held s -ℤ held r)) (held r) ≡ true) × (step ≡ 0))
-          ⊎ ((ltZ (held (held s -ℤ held r)) (held r) ≡ false) × (step ≡ ofZ w32 o))
+          ((ltZ (stored (stored s -ℤ stored r)) (stored r) ≡ true) × (step ≡ 0))
+          ⊎ ((ltZ (stored (stored s -ℤ stored r)) (stored r) ≡ false) × (step ≡ ofZ w32 o))
 
       is-outward : o ≡ outward x y
       is-outward = is-o ∙ ap₂ outward (toZ-ofZ fits-x) (toZ-ofZ fits-y)
 
-      sum-is : Chosen → held (quotZ (held x) (held y)) +ℤ toZ w32 step ≡ rounded x y
+      sum-is : Chosen → stored (quotZ (stored x) (stored y)) +ℤ toZ w32 step ≡ rounded x y
       sum-is =
           ⊎-elim
           (λ w. rw (w .1, toward) (+ℤ-idr (quotZ x y) ∙ sym (rounded-kept x y (ltb-true _ _ (sym test ∙ w .0)))))
@@ -207,16 +207,16 @@ module _ (x y : ℤ) (fits-x : SFits w32 x) (fits-y : SFits w32 y) (not-these : 
           rw (w .1, toward, is-outward, toZ-ofZ (record { sfits = outward-small x y }))
           (sym (rounded-outward x y divisor-size (ltb-false _ _ (sym test ∙ w .0)))))
 
-      pub stepped-fits : Chosen → SFits w32 (held (quotZ (held x) (held y)) +ℤ toZ w32 step)
+      pub stepped-fits : Chosen → SFits w32 (stored (quotZ (stored x) (stored y)) +ℤ toZ w32 step)
       stepped-fits e = rw (sum-is e) (record { sfits = rounded-small x y (fits-x .sfits) (not-these .0) (not-these .1) })
 
-      pub stepped : Chosen → held (held (quotZ (held x) (held y)) +ℤ toZ w32 step) ≡ rounded x y
+      pub stepped : Chosen → stored (stored (quotZ (stored x) (stored y)) +ℤ toZ w32 step) ≡ rounded x y
       stepped e = toZ-ofZ (stepped-fits e) ∙ sum-is e
 
 -- a rounded quotient of words, as an i32
-pub rounded-held :
+pub rounded-stored :
     (a b : ℕ) (q : ℤ) → a < 4294967296 → b < 4294967296 → (b ≡ 0 → ⊥) → (b ≡ 4294967295 → ⊥) →
-    q ≡ rounded (signed a) (signed b) → held q ≡ rounded (signed a) (signed b)
-rounded-held a b q small-a small-b not-zero not-minus-one e =
+    q ≡ rounded (signed a) (signed b) → stored q ≡ rounded (signed a) (signed b)
+rounded-stored a b q small-a small-b not-zero not-minus-one e =
     rw e
     (toZ-ofZ (record { sfits = quotient-in-range a b small-a small-b (signed-not-zero b small-b not-zero) (λ l m. not-minus-one m) }))

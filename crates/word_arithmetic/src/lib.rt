@@ -1,4 +1,4 @@
-// Word arithmetic on u32 patterns, document 01. Each function's equation cites word's specs/Word.antt.
+// Word arithmetic on u32 patterns, document 01 and 02, L3. Each public function's equation cites word's specs/Word.antt.
 use word::Relation;
 ghost use mathlib.Core.Path.{_≡_};
 ghost use lib.IntN.{pos, negsuc, negℤ, natAbs};

@@ -269,16 +269,21 @@ fn edge_pairs() {
     tally.finish(source, 72 * 72);
 }
 
-#[test]
-fn random_pairs() {
-    let source = format!("seed {SEED}");
-    let mut random = Random(SEED);
+/// Checks as many random pairs as are promised, each chosen by `pair`, and gives what was met.
+fn check_random(source: &str, seed: u64, pair: fn(&mut Random) -> (i32, i32)) -> Tally {
+    let mut random = Random(seed);
     let mut tally = Tally::default();
     for _ in 0..RANDOM_PAIRS {
-        let (a, b) = random.pair();
-        tally.check(&source, a, b);
+        let (a, b) = pair(&mut random);
+        tally.check(source, a, b);
     }
-    tally.finish(&source, 1_000_000);
+    tally.finish(source, 1_000_000);
+    tally
+}
+
+#[test]
+fn random_pairs() {
+    check_random(&format!("seed {SEED}"), SEED, Random::pair);
 }
 
 /// Dividends that leave half of their divisor, or up to two more or less: a multiple of it and half
@@ -305,13 +310,7 @@ fn about_every_half() {
 #[test]
 fn random_halves() {
     let source = format!("halves, seed {HALVES_SEED}");
-    let mut random = Random(HALVES_SEED);
-    let mut tally = Tally::default();
-    for _ in 0..RANDOM_PAIRS {
-        let (a, b) = random.about_half();
-        tally.check(&source, a, b);
-    }
-    tally.finish(&source, 1_000_000);
+    let tally = check_random(&source, HALVES_SEED, Random::about_half);
     tally.meets_halves(&source, 10_000);
 }
 

@@ -6,7 +6,7 @@ use Rattle.base.proofs.Cases.{cases}
 use Rattle.word.specs.Word.{rounded, quotient, value, word}
 use Rattle.word.proofs.SignedType.{held}
 use Rattle.word.proofs.Quotient.{word-by-minus-one, signed-not-zero, signed-not-minus-one}
-use Rattle.word_arithmetic.proofs.Rounding.{rounded-held}
+use Rattle.word_arithmetic.proofs.Rounding.{rounded-stored}
 use Rattle.word_arithmetic.proofs.div.Statement.{statement}
 use Rattle.word_arithmetic.proofs.div.Tie as tie
 
@@ -41,7 +41,7 @@ returns-3 c =
     let k = s .fits .b .fits in
     let not-zero = d .before .if1 .left in
     let e = n .nearest .ensures ∙ ap₂ rounded (held a _ h (n .before .before .to-signed .ensures)) (held b _ k (n .before .to-signed2 .ensures)) in
-    rw (ne-eqb b 0 not-zero) (ap value (c .to-word .ensures ∙ ap word (rounded-held a b _ h k not-zero (d .if2 .left) e)))
+    rw (ne-eqb b 0 not-zero) (ap value (c .to-word .ensures ∙ ap word (rounded-stored a b _ h k not-zero (d .if2 .left) e)))
 
 pub div-spec : {M : Type 1} → statement M
 div-spec =

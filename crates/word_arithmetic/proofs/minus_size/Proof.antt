@@ -3,17 +3,17 @@ use mathlib.Core.Bool.{true}
 use lib.IntN.{ℤ, pos, negℤ, natAbs, _-ℤ_}
 use lib.Signed.{ltZ}
 use mir.Syntax.{w32}
-use mir.Val.{toZ, ofZ, SFits}
+use mir.Val.{SFits}
 use mir.Facts.{toZ-ofZ}
-use Rattle.word_arithmetic.proofs.Rounding.{minus-above, minus-small, minus-rest}
+use Rattle.word_arithmetic.proofs.Rounding.{stored, minus-above, minus-small, minus-rest}
 use Rattle.word_arithmetic.proofs.minus_size.Statement.{statement}
 use Rattle.word_arithmetic.proofs.minus_size.Tie as tie
 
 -- the machine reads the parameter back as itself
-turned : (x : ℤ) → SFits w32 x → ltZ (pos 0) (toZ w32 (ofZ w32 x)) ≡ true → pos 0 -ℤ toZ w32 (ofZ w32 x) ≡ negℤ (pos (natAbs x))
+turned : (x : ℤ) → SFits w32 x → ltZ (pos 0) (stored x) ≡ true → pos 0 -ℤ stored x ≡ negℤ (pos (natAbs x))
 turned x h t = rw (toZ-ofZ h) (minus-above x (rw (toZ-ofZ h) at t))
 
-fits : (x : ℤ) → SFits w32 x → ltZ (pos 0) (toZ w32 (ofZ w32 x)) ≡ true → SFits w32 (pos 0 -ℤ toZ w32 (ofZ w32 x))
+fits : (x : ℤ) → SFits w32 x → ltZ (pos 0) (stored x) ≡ true → SFits w32 (pos 0 -ℤ stored x)
 fits x h t = rw (turned x h t) (record { sfits = minus-small x (h .sfits) })
 
 sub-result : tie.Need-sub-result
