@@ -11,6 +11,7 @@ use Rattle.base.proofs.Cases.{by-less, pick-yes}
 use Rattle.base.proofs.Lists.{sets-append, sets-whole, getD-sets, getD-sets-behind}
 use Rattle.order.specs.declared.Order.{Order}
 use Rattle.order.specs.declared.Order.the-variants.{Stop}
+use Rattle.order.specs.Limits.{mostOrders, mostWords}
 use Rattle.order.specs.Memory.{orderWord, orderIn, ordersIn}
 use Rattle.order.specs.Object.{Reading, object, refused, reading, linesOf}
 use Rattle.order.specs.Good.{Good}
@@ -63,10 +64,10 @@ left-call os budget n r ws out k s vs left st words registers e size =
 -- a part of the frame has the words of a state that fits
 pub part-fits :
     (words n : ℕ) (state output frame : List ℕ)
-    → length frame ≡ 98
-    → words ≤ 98
+    → length frame ≡ mostWords
+    → words ≤ mostWords
     → stateFits words n state output ≡ true
-    → (length (take words frame) ≤ 98) × (length state ≡ 20 + 4 * length (take words frame))
+    → (length (take words frame) ≤ mostWords) × (length state ≡ 20 + 4 * length (take words frame))
 part-fits words n state output frame whole h e =
     let size = length-take-le words frame (omega arith) in
     (omega (arith, size), omega (arith, size, fits-length words n state output e))
@@ -139,14 +140,14 @@ module _ (l : List ℕ) where
     pub limits : Good v t (known .orders)
     limits = read-good l v t (known .orders) (known .read)
 
-    pub few-words : v + t + 2 ≤ 98
+    pub few-words : v + t + 2 ≤ mostWords
     few-words = omega (arith, limits .variables, limits .temporaries)
 
     -- the call with the array that the reader has filled
     pub good-call :
         (array state output : List ℕ) (budget : ℕ)
         → ((i : ℕ) → getD array i 0 ≡ 0)
-        → length array ≡ 1024
+        → length array ≡ mostOrders
         → objectCall (v + t + 2) n (ordersIn (sets array 0 (map orderWord (linesOf l)))) state output budget ≡ runCall l state output budget
     unfolding runCall
     good-call array state output budget clear size =

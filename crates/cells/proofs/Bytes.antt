@@ -11,6 +11,7 @@ use Rattle.base.specs.Choice.{pick}
 use Rattle.base.proofs.Lists.{drop-more}
 use Rattle.source.specs.declared.Mode.{Mode}
 use Rattle.source.specs.declared.Mode.the-variants.{Plain}
+use Rattle.source.specs.Limits.{mostCells}
 use Rattle.source.specs.Cells.{turn, ended, _then_, onTurn, sourceEnd, statementsFrom}
 use Rattle.source.specs.Source.{offset, allAllowed, isAllowed, notAllowed}
 use Rattle.cells_byte.specs.declared.Ending.the-variants.{Whole, Nothing, Cut as CutEnd}
@@ -43,12 +44,12 @@ module _ (s : List ℕ) (i : ℕ) where
 pub record Reads (s : List ℕ) (at : ℕ) (cells : List ℕ) (m : Mode) (held i : ℕ) : Type 0 where
   pub same : statementsFrom m (take held cells) (drop i s) ≡ statementsFrom Plain [] (drop at s)
   pub behind : offsetBehind i m (take held cells) (drop i s) ≡ offsetBehind at Plain [] (drop at s)
-  pub room : 256 ≤ length cells
-  pub few : held ≤ 256
+  pub room : mostCells ≤ length cells
+  pub few : held ≤ mostCells
   pub on : at + held ≤ i
   pub inside : i ≤ length s + (at - length s)
 
-pub reads-first : (s : List ℕ) (at : ℕ) (cells : List ℕ) → 256 ≤ length cells → Reads s at cells Plain 0 at
+pub reads-first : (s : List ℕ) (at : ℕ) (cells : List ℕ) → mostCells ≤ length cells → Reads s at cells Plain 0 at
 reads-first s at cells room = record { same = refl; behind = refl; room = room; few = omega arith; on = omega arith; inside = omega arith }
 
 module _ (s : List ℕ) (at : ℕ) (cells : List ℕ) (m : Mode) (held i : ℕ) (reads : Reads s at cells m held i) where
@@ -66,7 +67,7 @@ module _ (s : List ℕ) (at : ℕ) (cells : List ℕ) (m : Mode) (held i : ℕ) 
       → Stepped cells′ held (On n k) (turn m (getD s i 0) (take held cells)) → Reads s at cells′ n k (i + 1)
   unfolding onTurn
   reads-turn cells′ n k h same-length step =
-      let room : 256 ≤ length cells = reads .room in
+      let room : mostCells ≤ length cells = reads .room in
       let on : at + held ≤ i = reads .on in
       let inside : i ≤ length s + (at - length s) = reads .inside in
       let more : k ≤ held + 1 = step .bounded .1 in

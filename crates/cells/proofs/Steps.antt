@@ -10,6 +10,7 @@ use lib.Seq.{length-take-le, getD-take, take-take, take-suc-set}
 use Rattle.base.specs.Choice.{pick}
 use Rattle.source.specs.declared.Mode.{Mode}
 use Rattle.source.specs.declared.Mode.the-variants.{Plain}
+use Rattle.source.specs.Limits.{mostCells}
 use Rattle.source.specs.Cells.{goesOn, turn, sourceEnd}
 use Rattle.cells_byte.specs.declared.Change.{Change}
 use Rattle.cells_byte.specs.declared.Change.the-variants.{Keep, Skip, Shorten, End, Over}
@@ -34,7 +35,7 @@ pub told-ending : (m : Mode) (held l : ℕ) (cells : List ℕ) (r e : Ending) �
     → endingOf m held (lastHeld held cells) ≡ e
 told-ending m held l cells r e p f g = ap (endingOf m held) (sym p) ∙ sym f ∙ g
 
-module _ (cells : List ℕ) (held : ℕ) (room : 256 ≤ length cells) (few : held ≤ 256) where
+module _ (cells : List ℕ) (held : ℕ) (room : mostCells ≤ length cells) (few : held ≤ mostCells) where
   cells-held : length (take held cells) ≡ held
   cells-held = length-take-le held cells (omega arith)
 
@@ -56,7 +57,7 @@ module _ (cells : List ℕ) (held : ℕ) (room : 256 ≤ length cells) (few : he
     pub by-keep : (c : ℕ) (m : Mode) → changeOf mode b held (lastHeld held cells) ≡ Keep c m
         → Stepped (set cells held c) held (On m (held + 1)) (turn mode b (take held cells))
     by-keep c m told =
-        let fits : held < 256 = told-fits (Keep c m) told in
+        let fits : held < mostCells = told-fits (Keep c m) told in
         let one-more : take (held + 1) (set cells held c) ≡ take held cells ++ c ∷ [] =
         rw (add-one held) (take-suc-set cells held c (omega arith)) in
         record {

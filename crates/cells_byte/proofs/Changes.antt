@@ -11,6 +11,7 @@ use Rattle.base.specs.Choice.{pick}
 use Rattle.base.proofs.Cases.{by-test, either-part}
 use Rattle.source.specs.declared.Mode.{Mode}
 use Rattle.source.specs.declared.Mode.the-variants.{Plain, Keyword, Quoted, Comment}
+use Rattle.source.specs.Limits.{mostCells}
 use Rattle.source.specs.Cells.{capital, small, Turn, goesOn, ends, over, turn, kept, outside, exclamation, closes, endsInC, Statements, ended, cut}
 use Rattle.source.specs.Cells.{_then_, atLast, newline, sourceEnd}
 use Rattle.cells_byte.specs.declared.Change.{Change}
@@ -36,7 +37,7 @@ module _ (cells : List ℕ) where
   either-turned false a b x y p q = q
 
   kept-turned : (c : ℕ) (m : Mode) → turned cells (keptOf c m (length cells)) ≡ kept c m cells
-  kept-turned c m = either-turned (ltb (length cells) 256) (Keep c m) Over _ _ refl refl
+  kept-turned c m = either-turned (ltb (length cells) mostCells) (Keep c m) Over _ _ refl refl
 
   exclamation-turned : turned cells (exclamationOf (length cells)) ≡ exclamation cells
   exclamation-turned = either-turned (eqb (length cells) 0) (Skip Comment) _ _ _ refl (kept-turned 33 Plain)
@@ -48,7 +49,7 @@ module _ (cells : List ℕ) where
   semicolon-turned : turned cells (newlineOf (length cells) 0) ≡ closes cells
   semicolon-turned =
       either-turned (eqb (length cells) 0) (Skip Plain) _ _ _ refl
-      (either-turned (ltb (length cells) 256) (closesOf 0) Over _ _ semicolon refl)
+      (either-turned (ltb (length cells) mostCells) (closesOf 0) Over _ _ semicolon refl)
 
 -- no C is held where nothing is
 newline-turned : (cells : List ℕ) → turned cells (newlineOf (length cells) (getD cells (length cells - 1) 0)) ≡ newline cells
@@ -56,7 +57,7 @@ unfolding pick
 newline-turned [] = refl
 newline-turned (x ∷ xs) =
     rw (ne-eqb (suc (length xs)) 0 (λ e. omega arith))
-    (both (eqb (getD (x ∷ xs) (suc (length xs) - 1) 0) 99) (ltb (suc (length xs)) 256))
+    (both (eqb (getD (x ∷ xs) (suc (length xs) - 1) 0) 99) (ltb (suc (length xs)) mostCells))
   where
     both : (c room : Bool)
         → turned (x ∷ xs) (pick room (pick c Shorten End) Over)
@@ -86,30 +87,30 @@ module _ (cells : List ℕ) where
   changed Quoted b = quoted (eqb b 39)
     where
       quoted : (t : Bool) → turned cells (pick t (keptOf b Plain (length cells)) (keptOf b Quoted (length cells)))
-          ≡ pick (ltb (length cells) 256) (goesOn (pick t Plain Quoted) (cells ++ b ∷ [])) over
+          ≡ pick (ltb (length cells) mostCells) (goesOn (pick t Plain Quoted) (cells ++ b ∷ [])) over
       quoted true = unfold pick in kept-turned cells b Plain
       quoted false = unfold pick in kept-turned cells b Quoted
   changed Comment b = refl
 
 -- the numbers of cells at which a change comes about
 abbrev pub Fits : ℕ → Change → Type 0
-Fits held (Keep c m) = held < 256
+Fits held (Keep c m) = held < mostCells
 Fits held (Skip m) = Unit {0}
 Fits held Shorten = 0 < held
-Fits held End = (0 < held) × (held < 256)
+Fits held End = (0 < held) × (held < mostCells)
 Fits held Over = Unit {0}
 
 module _ (held : ℕ) where
   kept-fits : (c : ℕ) (m : Mode) → Fits held (keptOf c m held)
-  kept-fits c m = either-part (Fits held) (ltb held 256) (Keep c m) Over (λ e. ltb-true held 256 e) (λ e. tt)
+  kept-fits c m = either-part (Fits held) (ltb held mostCells) (Keep c m) Over (λ e. ltb-true held mostCells e) (λ e. tt)
 
   newline-fits : (last : ℕ) → Fits held (newlineOf held last)
   newline-fits last =
       either-part (Fits held) (eqb held 0) (Skip Plain) _ (λ e. tt) (λ z.
-      either-part (Fits held) (ltb held 256) _ Over (λ l.
+      either-part (Fits held) (ltb held mostCells) _ Over (λ l.
       either-part (Fits held) (eqb last 99) Shorten End
       (λ e. omega (arith, eqb-false held 0 z))
-      (λ e. (omega (arith, eqb-false held 0 z), ltb-true held 256 l)))
+      (λ e. (omega (arith, eqb-false held 0 z), ltb-true held mostCells l)))
       (λ e. tt))
 
   exclamation-fits : Fits held (exclamationOf held)
@@ -147,7 +148,7 @@ end-closed : (cells : List ℕ) → closed cells (endingOutside (length cells) (
 unfolding pick
 end-closed [] = refl
 end-closed (x ∷ xs) =
-    by-test (ltb (suc (length xs)) 256)
+    by-test (ltb (suc (length xs)) mostCells)
     (λ room. by-test (endsInC (x ∷ xs)) (λ c. rw (some, room, c)) (λ c. rw (some, room, c)))
     (λ room. by-test (endsInC (x ∷ xs)) (λ c. rw (some, room, c)) (λ c. rw (some, room, c)))
   where
@@ -163,7 +164,7 @@ module _ (cells : List ℕ) where
   source-ended Comment = refl
 
 abbrev pub EndFits : ℕ → Ending → Type 0
-EndFits held Whole = (0 < held) × (held < 256)
+EndFits held Whole = (0 < held) × (held < mostCells)
 EndFits held Nothing = Unit {0}
 EndFits held (Cut n) = Unit {0}
 

@@ -5,6 +5,8 @@
 use base::part;
 use bytes::scan::find;
 use libc::STDOUT_FILENO;
+use skimp::MOST_OBJECT_BYTES;
+use skimp::MOST_SHEET_BYTES;
 
 fn main() {
     worked();
@@ -73,7 +75,7 @@ fn show_bytes(what: &[u8], bytes: &[u8]) {
 
 // The sheet of an object, or the refusal.
 fn read_back(object: &[u8]) {
-    let mut text = [0u8; 32768];
+    let mut text = [0u8; MOST_SHEET_BYTES];
     let reply = skimp::skimp_read_back(object, &mut text);
     if reply / 4294967296 == 0 {
         say(part(&text, 0, (reply % 4294967296) as usize));
@@ -93,7 +95,7 @@ fn run(what: &[u8], object: &[u8], state: &mut [u8], output: &mut [u8], budget: 
 
 // Document 01's worked program: its object, its sheet, and its run.
 fn worked() {
-    let mut text = [0u8; 18469];
+    let mut text = [0u8; MOST_OBJECT_BYTES];
     let reply = skimp::skimp_compile(
         b"%BEGIN\n%INTEGER A, B\nA = 3 ; B = A - (2 - 5) / 2\n%IF B > 4 %THEN SEND(B) %ELSE ->1\n1: SEND(A)\n%ENDOFPROGRAM\n",
         &mut text,
@@ -139,7 +141,7 @@ fn reading(title: &[u8], source: &[u8]) {
 
 // The same with a state of another length.
 fn reading_from(title: &[u8], source: &[u8], state: &mut [u8]) {
-    let mut text = [0u8; 18469];
+    let mut text = [0u8; MOST_OBJECT_BYTES];
     say(title);
     let reply = skimp::skimp_compile(source, &mut text);
     if reply / 4294967296 == 0 {

@@ -6,6 +6,7 @@ use mathlib.Core.List.{List, [], _∷_}
 use Rattle.base.specs.Choice.{pick}
 use Rattle.sheet.specs.declared.Field.{Field}
 use Rattle.sheet.specs.declared.Field.the-variants.{Else, Start, Finish, If, Send, Neg, Not, Binary, Compare, Word, Constant, Set, Goto}
+use Rattle.source.specs.Limits.{mostBytes, greatestLabel}
 use Rattle.source.specs.Program.{isKnown, Jump as SourceJump, jump}
 use Rattle.fields.specs.declared.Jump.{Jump}
 use Rattle.fields.specs.declared.Jump.the-variants.{To, Missing as None}
@@ -56,12 +57,13 @@ unfoldable pub fieldJumps : List Field → List ℕ
 fieldJumps [] = []
 fieldJumps (f ∷ fs) = withJump (jumpOf f) (fieldJumps fs)
 
--- a jump stands in memory with the number of its statement: those numbers and labels are less than these
+-- a jump stands in memory with the number of its statement: those numbers and labels are less than these. A statement that is not
+-- skipped has a byte at least.
 abbrev pub statementNumbers : ℕ
-statementNumbers = 65536
+statementNumbers = mostBytes + 2
 
 abbrev pub labelNumbers : ℕ
-labelNumbers = 16384
+labelNumbers = greatestLabel + 1
 
 -- a jump of statement k
 abbrev pub packedJump : ℕ → ℕ → ℕ

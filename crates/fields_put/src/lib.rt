@@ -9,6 +9,8 @@ use sheet_field::field_at;
 use sheet_field::field_in;
 use sheet_field::kind_of;
 use sheet_field::value_of;
+use source::GREATEST_LABEL;
+use source::MOST_BYTES;
 ghost use mathlib.Core.Path.{_≡_};
 ghost use Prim.Native.Nat.{_+_, _<_};
 ghost use lib.Dec.{leb};
@@ -20,9 +22,9 @@ ghost use Rattle.fields_put.specs.Answers.{putIn, putOf, pushOf, ledIn, 
 ghost use Rattle.fields_put.specs.Internal.{Puts, Appends, LeadsOne};
 
 // `statementNumbers` and `labelNumbers` of fields' specs/Memory.antt.
-const STATEMENTS: u32 = 65536;
+const STATEMENTS: u32 = MOST_BYTES as u32 + 2;
 
-const LABELS: u32 = 16384;
+const LABELS: u32 = GREATEST_LABEL + 1;
 
 // How many fields there are now, or that the array has no room for them.
 pub enum Put {

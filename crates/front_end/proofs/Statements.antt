@@ -26,7 +26,7 @@ use Rattle.cells.specs.declared.Found.the-variants.{At, Missing}
 use Rattle.cells.specs.declared.Next.{Next}
 use Rattle.cells.specs.declared.Reading.the-variants.{Statement as ReadTo, Ended, Cut}
 use Rattle.cells.specs.Answers.{Bytes, refused as notBytes, allowed as allBytes, found, foundOf, unrolled, Moved, Within}
-use Rattle.fields.specs.Memory.{fieldJumps}
+use Rattle.fields.specs.Memory.{fieldJumps, statementNumbers}
 use Rattle.groups.specs.Memory.{GroupsHeld}
 use Rattle.front_end_forms.specs.declared.Progress.{Progress}
 use Rattle.front_end_forms.specs.declared.Step.{Step}
@@ -150,12 +150,12 @@ pub moved-to : {s : List ℕ} {at : ℕ} (n : Next) (after : ℕ) → Moved s at
 moved-to n after h e = rw e at h
 
 -- fewer statements than bytes
-pub few-statements : {source : List ℕ} {ns : NameTable} {ls gs fs : List ℕ} {at k : ℕ} {p : Progress} → Going source at k p ns ls gs fs → length source ≤ 16384 → k + 1 < 65536
+pub few-statements : {source : List ℕ} {ns : NameTable} {ls gs fs : List ℕ} {at k : ℕ} {p : Progress} → Going source at k p ns ls gs fs → length source ≤ mostBytes → k + 1 < statementNumbers
 few-statements g h = let a = g .fewer in let b = g .inside in omega (arith, a, b, h)
 
 -- the letters of its names have room
 pub letters-fit : {source : List ℕ} {ns : NameTable} {ls gs fs : List ℕ} {at k after cells : ℕ} {p : Progress} (g : Going source at k p ns ls gs fs)
-    → Within source at after cells → length source ≤ 16384 → lettersIn (g .so-far .names) + cells ≤ mostBytes
+    → Within source at after cells → length source ≤ mostBytes → lettersIn (g .so-far .names) + cells ≤ mostBytes
 letters-fit g w h =
     let a = g .few-letters in
     let b = w .short in
@@ -173,15 +173,15 @@ offsetOr d (notBytes n i) = i
 offsetOr d allBytes = d
 
 module _ (source : List ℕ) where
-  pub too-long : 16384 < length source → refusedAt 1 0 ≡ answered (answer source)
+  pub too-long : mostBytes < length source → refusedAt 1 0 ≡ answered (answer source)
   unfolding pick
-  too-long h = rw (lt-ltb 16384 (length source) h) refl
+  too-long h = rw (lt-ltb mostBytes (length source) h) refl
 
-  module _ (short : length source ≤ 16384) (r : Found) (e : found r ≡ foundOf (notAllowed 0 source)) where
+  module _ (short : length source ≤ mostBytes) (r : Found) (e : found r ≡ foundOf (notAllowed 0 source)) where
     -- the number and place that the case has are those of the source's refusal
     refused-byte : (n i : ℕ) → notBytes n i ≡ foundOf (notAllowed 0 source) → refusedAt n i ≡ answered (answer source)
     unfolding pick
-    refused-byte n i z = rw (le-ltb 16384 (length source) short) (by-offset (notAllowed 0 source) z)
+    refused-byte n i z = rw (le-ltb mostBytes (length source) short) (by-offset (notAllowed 0 source) z)
       where
         by-offset : (a : NotAllowed) → notBytes n i ≡ foundOf a → refusedAt n i ≡ answered (onAllowed a source)
         by-offset (offset j) z = ap replied z
@@ -196,7 +196,7 @@ module _ (source : List ℕ) where
 
     pub all-bytes : r ≡ Missing → answered (program nothingRead 0 (statements source)) ≡ answered (answer source)
     unfolding pick
-    all-bytes z = rw (le-ltb 16384 (length source) short) (by-offset (notAllowed 0 source) (rw z at e))
+    all-bytes z = rw (le-ltb mostBytes (length source) short) (by-offset (notAllowed 0 source) (rw z at e))
       where
         by-offset : (a : NotAllowed) → allBytes ≡ foundOf a → answered (program nothingRead 0 (statements source)) ≡ answered (onAllowed a source)
         by-offset (offset j) z = let m : _≡_ {A = ℕ} 1 0 = ap isAll z in absurd (omega arith)
@@ -212,7 +212,7 @@ offset-inside (b ∷ bs) j n i e =
     (λ t. let h = offset-inside bs (suc j) n i (rw t at e) in omega (arith, h))
     (λ t. let z : i ≡ j = ap (offsetOr i) (rw t at e) in omega (arith, z))
 
-pub small-offset : (source : List ℕ) (r : Found) (i : ℕ) → found r ≡ foundOf (notAllowed 0 source) → r ≡ At i → length source ≤ 16384 → i < 4294967296
+pub small-offset : (source : List ℕ) (r : Found) (i : ℕ) → found r ≡ foundOf (notAllowed 0 source) → r ≡ At i → length source ≤ mostBytes → i < 4294967296
 small-offset source r i e z h =
     let g = offset-inside source 0 2 i (rw z at e) in
     omega (arith, g, h)

@@ -8,7 +8,7 @@ use Rattle.sheet_field.specs.Memory.{mostFields}
 use Rattle.source.specs.declared.Mode.the-variants.{Plain}
 use Rattle.source.specs.Limits.{mostBytes}
 use Rattle.source.specs.Cells.{statementsFrom, statements}
-use Rattle.source.specs.Memory.{tableRows, lettersIn}
+use Rattle.source.specs.Memory.{nameRows, labelRows, lettersIn}
 use Rattle.source.specs.Program.{Program, nothingRead}
 use Rattle.source.specs.Source.{program}
 use Rattle.front_end_forms.specs.declared.Progress.{Progress}
@@ -18,8 +18,8 @@ use Rattle.front_end_forms.specs.Memory.{NameTable, Holds}
 pub record Rooms (source : List ℕ) (names : NameTable) (labels groups fields : List ℕ) : Type 0 where
   pub few-bytes : length source ≤ mostBytes
   pub room-for-letters : length (names .letters) ≡ mostBytes
-  pub room-for-rows : length (names .index) ≡ tableRows
-  pub room-for-labels : length labels ≡ tableRows
+  pub room-for-rows : length (names .index) ≡ nameRows
+  pub room-for-labels : length labels ≡ labelRows
   pub room-for-groups : length groups ≡ mostLevels
   pub room-for-fields : length fields ≡ mostFields
 

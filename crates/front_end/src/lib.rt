@@ -8,8 +8,9 @@ use front_end_forms::nothing_read;
 use front_end_statement::statement;
 use sheet_field::MOST_FIELDS;
 use sheet_field::MOST_LEVELS;
+use source::LABEL_ROWS;
 use source::MOST_BYTES;
-use source::TABLE_ROWS;
+use source::NAME_ROWS;
 ghost use mathlib.Core.Path.{_≡_};
 ghost use lib.ListN.{length};
 ghost use Rattle.source.specs.Cells.{statements};
@@ -57,7 +58,7 @@ fn read_statements(
                     }
                     Step::Refused(n, place) => return Answer::Refused(n, place),
                     Step::Given => {
-                        return Answer::Sheet(p.names as u32, p.instructions, p.fields as u32);
+                        return Answer::Sheet(p.names, p.instructions, p.fields as u32);
                     }
                     Step::Unfit => return Answer::Unfit,
                 }
@@ -83,8 +84,8 @@ pub fn read(source: &[u8], fields: &mut [u64]) -> Answer
         return Answer::Refused(2, i as u32);
     }
     let mut letters = [0u8; MOST_BYTES];
-    let mut index = [0u32; TABLE_ROWS as usize];
-    let mut labels = [0u32; TABLE_ROWS as usize];
+    let mut index = [0u32; NAME_ROWS];
+    let mut labels = [0u32; LABEL_ROWS];
     let mut groups = [0u64; MOST_LEVELS as usize];
     read_statements(
         source,

@@ -10,6 +10,8 @@ use lib.ListN.{length}
 use Rattle.base.specs.Choice.{pick}
 use Rattle.base.proofs.Cases.{by-test}
 use Rattle.base.proofs.Places.{each-length}
+use Rattle.source.specs.Limits.{mostLabels}
+use Rattle.source.specs.Memory.{mostListed}
 use Rattle.source.specs.Program.{Program, Outcome, refused, further, canSet, labelsSet, labelling, setting, withLabels, withFewLabels}
 use Rattle.labels.specs.declared.Set.{Set}
 use Rattle.labels.specs.declared.Set.the-variants.{Labels as Sets, Refused as NotSet, Unfit as SetUnfit}
@@ -39,7 +41,7 @@ pub labels-same : (p : Progress) (c : ℕ) → SameCounts p (inInstructions p c)
 labels-same p c = record { instructions-same = refl; fields-same = refl; orders-same = refl; groups-same = refl }
 
 module _ {q : Program} {p : Progress} {ns : NameTable} {ls gs fs : List ℕ} (h : Holds q p ns ls gs fs) (counts : FewCounts p) (k : ℕ) (new : List ℕ)
-    (few : length new ≤ 128) (r : Set) (after : List ℕ) (sets : SetsLabels ls (p .labels) (p .instructions + 1) new r after) where
+    (few : length new ≤ mostListed) (r : Set) (after : List ℕ) (sets : SetsLabels ls (p .labels) (p .instructions + 1) new r after) where
   -- there is room for them
   all-told : setIn (p .instructions + 1) r after ≡ setAll (q .set) new
   all-told =
@@ -67,15 +69,15 @@ module _ {q : Program} {p : Progress} {ns : NameTable} {ls gs fs : List ℕ} (h 
     count : length (setting q new .set) ≡ c
     count = ap length (sym (both .1)) ∙ each-length _ 0 c
 
-    pub comes-over : 64 < c → Comes (λ o n. Holds o n ns after gs fs) NoSheet (Refused 11 k) (labelling q k new)
+    pub comes-over : mostLabels < c → Comes (λ o n. Holds o n ns after gs fs) NoSheet (Refused 11 k) (labelling q k new)
     unfolding pick
-    comes-over over = comes-refused 11 k (rw (both .0, count, lt-ltb 64 c over) refl)
+    comes-over over = comes-refused 11 k (rw (both .0, count, lt-ltb mostLabels c over) refl)
 
-    pub comes-labelled : c ≤ 64
+    pub comes-labelled : c ≤ mostLabels
         → Comes (λ o n. Holds o n ns after gs fs) NoSheet (Further (inInstructions p c)) (labelling q k new)
     unfolding pick
     comes-labelled few-too =
-        comes-further (setting q new) _ (rw (both .0, count, le-ltb 64 c few-too) refl)
+        comes-further (setting q new) _ (rw (both .0, count, le-ltb mostLabels c few-too) refl)
         (record {
           staged = refl;
           its-names = h .its-names;
@@ -104,7 +106,7 @@ module _ (q : Program) (k : ℕ) (new : List ℕ) (o : Outcome) where
       by-test
       (canSet (q .set) new)
       (λ t. by-test
-      (ltb 64 (length (setting q new .set)))
+      (ltb mostLabels (length (setting q new .set)))
       (λ u. rw (t, u) (rw (t, u) at e))
       (λ u. let z : _≡_ {A = ℕ} 1 0 = cc (rw (t, u) at e) in absurd (omega arith)))
       (λ t. rw t (rw t at e))
@@ -116,7 +118,7 @@ module _ (q : Program) (k : ℕ) (new : List ℕ) (o : Outcome) where
         by-test
         (canSet (q .set) new)
         (λ t. by-test
-        (ltb 64 (length (setting q new .set)))
+        (ltb mostLabels (length (setting q new .set)))
         (λ u. let z : _≡_ {A = ℕ} 0 1 = cc (rw (t, u) at e) in absurd (omega arith))
         (λ u. let same : setting q new ≡ q′ = cc (rw (t, u) at e) in (rw (t, u) refl, same)))
         (λ t. let z : _≡_ {A = ℕ} 0 1 = cc (rw t at e) in absurd (omega arith))

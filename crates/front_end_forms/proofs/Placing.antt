@@ -10,6 +10,7 @@ use lib.Dec.{ltb}
 use lib.ListN.{length, set, length-append, length-map, length-set}
 use Rattle.base.specs.Choice.{pick}
 use Rattle.base.proofs.Cases.{by-test, by-less}
+use Rattle.order.specs.Limits.{mostTemporaries, mostOrders}
 use Rattle.sheet.specs.declared.Field.{Field}
 use Rattle.sheet.specs.Sheet.{Part, count, Sheet}
 use Rattle.sheet.specs.Translation.{size}
@@ -22,6 +23,7 @@ use Rattle.source.specs.Grammar.{Instruction, simple, ifThen, ifElse, ifStart}
 use Rattle.source.specs.Fields.{instructionFields}
 use Rattle.source.specs.Program.{Program, Outcome, refused, Group, first, countOutside, ordersOutside, ordersSoFar, nextNumber, jump, moved, arrived}
 use Rattle.source.specs.Program.{jumpsIn, all, isLabel, level, temporariesIn, placed, groupsOf, listOf, placing, withFewTemporaries, withFewLevels, withFewOrders}
+use Rattle.labels.specs.Memory.{instructionNumbers}
 use Rattle.labels.proofs.Finding.{labels-arrived, so-far-later}
 use Rattle.groups.specs.Memory.{groupWord}
 use Rattle.groups.proofs.Held.{held-more}
@@ -130,12 +132,12 @@ module _ {q : Program} {p : Progress} {ns : NameTable} {ls gs fs : List ℕ} (h 
   total : ordersSoFar (placing k i q) ≡ p .orders + instructionOrders v i
   total = place-orders k (q .groups) (q .here) v i ∙ ap (λ n. n + instructionOrders v i) (sym (h .its-fields .ordered v))
 
-  few-temporaries : z .temporaries ≤ 32 → (o : Outcome) → withFewTemporaries k i o ≡ o
+  few-temporaries : z .temporaries ≤ mostTemporaries → (o : Outcome) → withFewTemporaries k i o ≡ o
   unfolding pick
   few-temporaries few o =
       let s = sized own i z (is .its-fields) size-too v in
-      let t : temporariesIn i ≤ 32 = omega (arith, few, s .its-temporaries) in
-      rw (le-ltb 32 (temporariesIn i) t) refl
+      let t : temporariesIn i ≤ mostTemporaries = omega (arith, few, s .its-temporaries) in
+      rw (le-ltb mostTemporaries (temporariesIn i) t) refl
 
   over : withFewOrders k (placing k i q) ≡ refused 11 k → rest ≡ refused 11 k
   unfolding pick
@@ -147,29 +149,29 @@ module _ {q : Program} {p : Progress} {ns : NameTable} {ls gs fs : List ℕ} (h 
       rw (is .its-opening, s .its-instructions, h .its-groups .opened) (deep-told i (q .groups))
 
   module _ {P : Program → Progress → Type 0} {G : Sheet → Type 0} where
-    pub over-temporaries : 32 < z .temporaries → Comes P G (Refused 11 k) (withFewTemporaries k i rest)
+    pub over-temporaries : mostTemporaries < z .temporaries → Comes P G (Refused 11 k) (withFewTemporaries k i rest)
     unfolding pick
     over-temporaries g =
         let s = sized own i z (is .its-fields) size-too v in
-        let t : 32 < temporariesIn i = omega (arith, g, s .its-temporaries) in
-        comes-refused 11 k (rw (lt-ltb 32 (temporariesIn i) t) refl)
+        let t : mostTemporaries < temporariesIn i = omega (arith, g, s .its-temporaries) in
+        comes-refused 11 k (rw (lt-ltb mostTemporaries (temporariesIn i) t) refl)
 
-    pub over-orders : z .temporaries ≤ 32 → 1024 - p .orders ≤ z .orders → Comes P G (Refused 11 k) (withFewTemporaries k i rest)
+    pub over-orders : z .temporaries ≤ mostTemporaries → mostOrders - p .orders ≤ z .orders → Comes P G (Refused 11 k) (withFewTemporaries k i rest)
     unfolding pick
     over-orders few g =
         let s = sized own i z (is .its-fields) size-too v in
-        let u : 1024 < suc (ordersSoFar (placing k i q)) = omega (arith, g, s .its-orders, total, h .its-fields .few-orders) in
-        comes-refused 11 k (few-temporaries few rest ∙ over (rw (lt-ltb 1024 (suc (ordersSoFar (placing k i q))) u) refl))
+        let u : mostOrders < suc (ordersSoFar (placing k i q)) = omega (arith, g, s .its-orders, total, h .its-fields .few-orders) in
+        comes-refused 11 k (few-temporaries few rest ∙ over (rw (lt-ltb mostOrders (suc (ordersSoFar (placing k i q))) u) refl))
 
-    pub over-levels : z .temporaries ≤ 32 → (t : Bool) → t ≡ tooDeep opens (z .instructions) (p .groups) → t ≡ true → Comes P G (Refused 11 k) (withFewTemporaries k i rest)
+    pub over-levels : z .temporaries ≤ mostTemporaries → (t : Bool) → t ≡ tooDeep opens (z .instructions) (p .groups) → t ≡ true → Comes P G (Refused 11 k) (withFewTemporaries k i rest)
     unfolding pick
     over-levels few t known e = comes-refused 11 k (few-temporaries few rest ∙ rw (sym deep ∙ sym known ∙ e) refl)
 
   -- the limits are kept
-  module _ (good : all isLabel (jumpsIn i) ≡ true) (few-statements : k < statementNumbers) (few : z .temporaries ≤ 32) (g : z .orders < 1024 - p .orders)
+  module _ (good : all isLabel (jumpsIn i) ≡ true) (few-statements : k < statementNumbers) (few : z .temporaries ≤ mostTemporaries) (g : z .orders < mostOrders - p .orders)
       (t : Bool) (known : t ≡ tooDeep opens (z .instructions) (p .groups)) (fits : t ≡ false)
       (r : Put) (after : List ℕ) (told : putIn r after ≡ putOf k (fieldsAt 0 own) (p .fields) fs) (kept : length after ≡ length fs) where
-    few-orders : instructionOrders v i < 1024 - p .orders
+    few-orders : instructionOrders v i < mostOrders - p .orders
     few-orders = let s = sized own i z (is .its-fields) size-too v in omega (arith, g, s .its-orders)
 
     placed-orders : (w : ℕ) → p .orders + z .orders ≡ ordersOutside w (groupsOf (placed k (q .groups) (q .here) i)) + size w (listOf (placed k (q .groups) (q .here) i))
@@ -208,7 +210,7 @@ module _ {q : Program} {p : Progress} {ns : NameTable} {ls gs fs : List ℕ} (h 
           let enough = size-too .few in
           let counts = counts-few h in
           let later : p .instructions + 1 < p .instructions + z .instructions + 1 = omega (arith, s .its-instructions, some) in
-          let few-numbers : p .instructions + z .instructions + 1 < 2048 = omega (arith, counts .few-instructions, enough) in
+          let few-numbers : p .instructions + z .instructions + 1 < instructionNumbers = omega (arith, counts .few-instructions, enough) in
           let number : p .instructions + 1 ≡ nextNumber q = omega (arith, h .its-fields .counted) in
           record {
             labelled =
@@ -263,7 +265,7 @@ module _ {q : Program} {p : Progress} {ns : NameTable} {ls gs fs : List ℕ} (h 
           (withFewTemporaries k i rest)
       unfolding pick
       comes-placed =
-          let u : suc (ordersSoFar (placing k i q)) ≤ 1024 = omega (arith, total, few-orders, h .its-fields .few-orders) in
+          let u : suc (ordersSoFar (placing k i q)) ≤ mostOrders = omega (arith, total, few-orders, h .its-fields .few-orders) in
           comes-further (placing k i q) _
-          (few-temporaries few rest ∙ rw (sym deep ∙ sym known ∙ fits, le-ltb 1024 (suc (ordersSoFar (placing k i q))) u) refl)
+          (few-temporaries few rest ∙ rw (sym deep ∙ sym known ∙ fits, le-ltb mostOrders (suc (ordersSoFar (placing k i q))) u) refl)
           (record { staged = refl; its-names = h .its-names; its-labels = labels-too; its-groups = groups-too; its-fields = fields-too })

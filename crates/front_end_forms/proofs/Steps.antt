@@ -7,8 +7,9 @@ use native.Mathlib.Omega.{arith}
 use borrow.Author.Tests.{lt-ltb, le-ltb}
 use lib.ListN.{length}
 use Rattle.base.specs.Choice.{pick}
+use Rattle.order.specs.Limits.{mostVariables}
 use Rattle.source.specs.Limits.{mostBytes}
-use Rattle.source.specs.Memory.{tableRows, lettersIn}
+use Rattle.source.specs.Memory.{mostListed, nameRows, lettersIn}
 use Rattle.source.specs.Tokens.{Lexeme}
 use Rattle.source.specs.Grammar.{beginning, declaration}
 use Rattle.source.specs.Program.{Program, Stage, nothing, declarations, instructions, refused, further, namesIn, canDeclare, inOrder, declare, declaring, opened}
@@ -75,20 +76,20 @@ module _ (q : Program) (k : ℕ) (ns : List (List ℕ)) where
   declare-refused t = rw t refl
 
   module _ (can : canDeclare (q .names) ns ≡ true) where
-    declare-many : 64 < length (q .names ++ ns) → declare q k ns ≡ refused 11 k
+    declare-many : mostVariables < length (q .names ++ ns) → declare q k ns ≡ refused 11 k
     unfolding pick
-    declare-many h = rw (can, lt-ltb 64 (length (q .names ++ ns)) h) refl
+    declare-many h = rw (can, lt-ltb mostVariables (length (q .names ++ ns)) h) refl
 
-    declare-few : length (q .names ++ ns) ≤ 64 → declare q k ns ≡ further (declaring q ns)
+    declare-few : length (q .names ++ ns) ≤ mostVariables → declare q k ns ≡ further (declaring q ns)
     unfolding pick
-    declare-few h = rw (can, le-ltb 64 (length (q .names ++ ns)) h) refl
+    declare-few h = rw (can, le-ltb mostVariables (length (q .names ++ ns)) h) refl
 
 module _ {q : Program} {p : Progress} {ns : NameTable} {ls gs fs : List ℕ} (h : Holds q p ns ls gs fs) (k : ℕ) (xs : List Lexeme) where
   pub declared-elsewhere : (p .stage ≡ 1 → ⊥) → (after : NameTable)
       → Comes (λ o n. Holds o n after ls gs fs) NoSheet (Refused 7 k) (inOrder q (q .stage) k xs declaration)
   declared-elsewhere n after = comes-refused 7 k (declare-elsewhere q k xs (q .stage) (λ z. n (h .staged ∙ z)))
 
-  module _ (here : p .stage ≡ 1) (few : length (namesIn xs) ≤ 128) (room : lettersIn (q .names) + lettersIn (namesIn xs) ≤ mostBytes) (r : Declared)
+  module _ (here : p .stage ≡ 1) (few : length (namesIn xs) ≤ mostListed) (room : lettersIn (q .names) + lettersIn (namesIn xs) ≤ mostBytes) (r : Declared)
       (after : NameTable) (declares : NowDeclares (namesIn xs) (p .names) (p .letters) (ns .letters) (ns .index) r (after .letters) (after .index)) where
     in-order : inOrder q (q .stage) k xs declaration ≡ declare q k (namesIn xs)
     in-order = declare-here q k xs (q .stage) (sym (h .staged) ∙ here)
@@ -97,7 +98,7 @@ module _ {q : Program} {p : Progress} {ns : NameTable} {ls gs fs : List ℕ} (h 
     told = declares (q .names) (h .its-names .named)
 
     -- there is a row for each of the names
-    rows : length (q .names) + length (namesIn xs) ≤ tableRows
+    rows : length (q .names) + length (namesIn xs) ≤ nameRows
     rows =
         let v = h .its-names .named .counted in
         let most = h .its-names .few-names in
@@ -116,12 +117,12 @@ module _ {q : Program} {p : Progress} {ns : NameTable} {ls gs fs : List ℕ} (h 
           let all = all-declared (q .names) (namesIn xs) rows room (s .0) (s .2) in
           (all .0, rw (← all .1) (s .1))
 
-      pub comes-many : 64 < v → Comes (λ o n. Holds o n after ls gs fs) NoSheet (Refused 11 k) (inOrder q (q .stage) k xs declaration)
+      pub comes-many : mostVariables < v → Comes (λ o n. Holds o n after ls gs fs) NoSheet (Refused 11 k) (inOrder q (q .stage) k xs declaration)
       comes-many many =
           let all = all-names in
           comes-refused 11 k (in-order ∙ declare-many q k (namesIn xs) (all .0) (rw (← all .1 .counted) many))
 
-      pub comes-declared : v ≤ 64
+      pub comes-declared : v ≤ mostVariables
           → Comes (λ o n. Holds o n after ls gs fs) NoSheet (Further (inDeclarations p v filled)) (inOrder q (q .stage) k xs declaration)
       comes-declared few-too =
           let all = all-names in

@@ -10,7 +10,7 @@ use Rattle.sheet.specs.Sheet.{Sheet}
 use Rattle.sheet.specs.Within.{mostLevels}
 use Rattle.sheet_field.specs.Memory.{fieldsAt, mostFields}
 use Rattle.source.specs.Limits.{mostBytes}
-use Rattle.source.specs.Memory.{lettersIn}
+use Rattle.source.specs.Memory.{mostListed, lettersIn}
 use Rattle.source.specs.Tokens.{Lexeme}
 use Rattle.source.specs.Grammar.{Instruction, simple, ifThen, ifElse, ifStart}
 use Rattle.source.specs.Grammar.{beginning, declaration, labels as labelled-by, instruction as labelled-instruction}
@@ -50,7 +50,7 @@ abbrev pub Declares : Progress → ℕ → List Lexeme → NameTable → Step �
 Declares p k xs before r after =
     (q : Program) (ls gs fs : List ℕ)
     → Holds q p before ls gs fs
-    → length (namesIn xs) ≤ 128
+    → length (namesIn xs) ≤ mostListed
     → lettersIn (q .names) + lettersIn (namesIn xs) ≤ mostBytes
     → Comes (λ o n. Holds o n after ls gs fs) NoSheet r (inOrder q (q .stage) k xs declaration)
 
@@ -72,7 +72,7 @@ abbrev pub SetsLabels : Progress → ℕ → List ℕ → List ℕ → Step → 
 SetsLabels p k ls before r after =
     (q : Program) (ns : NameTable) (gs fs : List ℕ) (xs : List Lexeme)
     → Holds q p ns before gs fs
-    → length ls ≤ 128
+    → length ls ≤ mostListed
     → Comes (λ o n. Holds o n ns after gs fs) NoSheet r (inOrder q (q .stage) k xs (labelled-by ls))
 
 -- whether an instruction goes on behind its START
@@ -94,5 +94,5 @@ Instructs p k labels own opens before-ls before-gs before-fs r ls gs fs =
     → Holds q p ns before-ls before-gs before-fs
     → k < statementNumbers
     → IsInstruction own opens i
-    → length labels ≤ 128
+    → length labels ≤ mostListed
     → Comes (λ o n. Holds o n ns ls gs fs) NoSheet r (inOrder q (q .stage) k xs (labelled-instruction labels i))

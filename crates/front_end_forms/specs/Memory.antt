@@ -12,7 +12,7 @@ use Rattle.sheet.specs.Translation.{size}
 use Rattle.sheet.specs.Within.{mostLevels}
 use Rattle.sheet_field.specs.Memory.{fieldsFrom, mostFields}
 use Rattle.source.specs.Limits.{mostLabels}
-use Rattle.source.specs.Memory.{tableRows}
+use Rattle.source.specs.Memory.{labelRows}
 use Rattle.source.specs.Grammar.{ifStart}
 use Rattle.source.specs.Fields.{instructionFields}
 use Rattle.source.specs.Program.{Program, Stage, nothing, declarations, instructions, Label, Jump, Group, first, second, countOutside, ordersOutside}
@@ -58,7 +58,7 @@ pub record HoldsLabels (ls : List Label) (c n : ℕ) (table : List ℕ) : Type 0
   pub labelled : labelsOf n c table ≡ ls
   pub so-far : SoFar n c table
   pub few-labels : c ≤ mostLabels
-  pub room-for-labels : length table ≡ tableRows
+  pub room-for-labels : length table ≡ labelRows
 
 -- an array holds open groups
 pub record HoldsGroups (gs : List Group) (many : ℕ) (array : List ℕ) : Type 0 where

@@ -28,7 +28,7 @@ ghost use Rattle.front_end_forms.specs.Internal.{tooDeep, Opens, Places}
 // of names, labels, fields, instructions, orders and open groups there are.
 pub struct Progress {
     pub stage: u8,
-    pub names: u8,
+    pub names: u32,
     pub letters: u32,
     pub labels: u32,
     pub fields: usize,
@@ -98,7 +98,7 @@ pub fn declaration(
     }
     match declare(cells, kinds, values, n, letters, index, p.names, p.letters) {
         Declared::Names(v, filled) => {
-            if MOST_VARIABLES < v as u32 {
+            if MOST_VARIABLES < v {
                 return Step::Refused(11, k);
             }
             Step::Further(Progress {

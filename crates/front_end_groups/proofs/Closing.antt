@@ -8,6 +8,7 @@ use borrow.Author.Tests.{lt-ltb, le-ltb, eq-eqb, ne-eqb, eqb-true, eqb-false}
 use lib.Dec.{eqb}
 use lib.ListN.{length, getD, set, length-set}
 use Rattle.base.specs.Choice.{pick}
+use Rattle.order.specs.Limits.{mostOrders}
 use Rattle.sheet.specs.declared.Field.{Field}
 use Rattle.sheet.specs.declared.Field.the-variants.{Else, Finish}
 use Rattle.sheet.specs.Sheet.{Part, end, when, either, Condition, count, Sheet}
@@ -273,11 +274,11 @@ module _ {q : Program} {p : Progress} {ns : NameTable} {ls gs fs : List ℕ} (h 
       let all = h .its-fields .ordered v ∙ ap (λ l. ordersOutside v l + size v (q .here)) is in
       omega (arith, all, else-orders j hs x c (q .here) k v)
 
-  pub second-over : {P : Program → Progress → Type 0} {G : Sheet → Type 0} → 1024 - p .orders ≤ 1 → Comes P G (Refused 11 k) (withFewOrders k nowRead)
+  pub second-over : {P : Program → Progress → Type 0} {G : Sheet → Type 0} → mostOrders - p .orders ≤ 1 → Comes P G (Refused 11 k) (withFewOrders k nowRead)
   unfolding pick
   second-over g =
-      let u : 1024 < suc (ordersSoFar nowRead) = omega (arith, g, second-total (length (q .names)), counts .few-orders) in
-      comes-refused 11 k (rw (lt-ltb 1024 (suc (ordersSoFar nowRead)) u) refl)
+      let u : mostOrders < suc (ordersSoFar nowRead) = omega (arith, g, second-total (length (q .names)), counts .few-orders) in
+      comes-refused 11 k (rw (lt-ltb mostOrders (suc (ordersSoFar nowRead)) u) refl)
 
   some : 1 ≤ length (q .groups)
   some = let n = ap length is in omega (arith, n)
@@ -285,7 +286,7 @@ module _ {q : Program} {p : Progress} {ns : NameTable} {ls gs fs : List ℕ} (h 
   inside : p .groups - 1 ≡ length hs
   inside = let n = h .its-groups .opened ∙ ap length is in omega (arith, n)
 
-  module _ (g : 1 < 1024 - p .orders) (r : Put) (after : List ℕ) (told : putIn r after ≡ pushOf Else (p .fields) fs) (kept : length after ≡ length fs) where
+  module _ (g : 1 < mostOrders - p .orders) (r : Put) (after : List ℕ) (told : putIn r after ≡ pushOf Else (p .fields) fs) (kept : length after ≡ length fs) where
     pub second-fits : {A : Type 0} → r ≡ NotPut → A
     second-fits e = push-fits (h .its-fields) some Else refl else-jumps r after told e
 
@@ -348,5 +349,5 @@ module _ {q : Program} {p : Progress} {ns : NameTable} {ls gs fs : List ℕ} (h 
       pub comes-second : Comes (λ o n. Holds o n ns labels-too array after) NoSheet (Further nowSecond) (withFewOrders k nowRead)
       unfolding pick
       comes-second =
-          let u : suc (ordersSoFar nowRead) ≤ 1024 = omega (arith, g, second-total (length (q .names))) in
-          comes-further nowRead _ (rw (le-ltb 1024 (suc (ordersSoFar nowRead)) u) refl) second-holds
+          let u : suc (ordersSoFar nowRead) ≤ mostOrders = omega (arith, g, second-total (length (q .names))) in
+          comes-further nowRead _ (rw (le-ltb mostOrders (suc (ordersSoFar nowRead)) u) refl) second-holds

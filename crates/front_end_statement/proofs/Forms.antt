@@ -16,13 +16,14 @@ use Rattle.sheet_field.proofs.Stored.{fields-front}
 use Rattle.source.specs.declared.Token.{Token}
 use Rattle.source.specs.declared.Token.the-variants.{Name, Number, Quoted, Binary, Compare, Mark}
 use Rattle.source.specs.declared.Statement.{Statement}
+use Rattle.source.specs.Limits.{mostCells}
 use Rattle.source.specs.Tokens.{Lexeme, name, token, Lexed, lexed, markInteger, markBegin, markEnd, markComma, markFinish, markElse, markStart, lexemes, refused as wrong}
 use Rattle.source.specs.Grammar.{Instruction as Instructing, simple, ifThen, ifElse, ifStart}
 use Rattle.source.specs.Grammar.{Form, beginning, declaration, ending, labels, instruction, finish, finishElse, noForm, behindFirst, opens, isName, isMark, isNameList}
 use Rattle.source.specs.Grammar.{form, only, finishing, Labelled, labelled as labelledTokens, labelledForm, labelsAt as labelsBefore, entire, instructionAt}
 use Rattle.source.specs.Grammar.{Read, read, none}
 use Rattle.source.specs.Fields.{instructionFields}
-use Rattle.source.specs.Memory.{tokensFrom, lexemeOf, lexemesFrom, held, lettersIn}
+use Rattle.source.specs.Memory.{tokensFrom, lexemeOf, lexemesFrom, held, lettersIn, mostListed}
 use Rattle.source.specs.Program.{lookedUp, namesIn, Program, Stage, nothing, declarations, instructions, inOrder, refused, statement, Outcome, onLexed}
 use Rattle.source.proofs.Stored.{lexemes-each}
 use Rattle.source.proofs.Letters.{letters-few}
@@ -207,7 +208,7 @@ unfolding opens behindFirst pick
 behind-length m [] e = let z : _≡_ {A = ℕ} 0 1 = ap (λ b. pick {A = ℕ} b 1 0) e in absurd (omega arith)
 behind-length m (t ∷ ts) e = omega arith
 
-pub few-declared : (ms : List (List ℕ)) (xs : List Lexeme) → length xs ≤ 256 → form (map (lookedUp ms) xs) ≡ declaration → length (namesIn xs) ≤ 128
+pub few-declared : (ms : List (List ℕ)) (xs : List Lexeme) → length xs ≤ mostCells → form (map (lookedUp ms) xs) ≡ declaration → length (namesIn xs) ≤ mostListed
 few-declared ms xs h e =
     let d = declared-list (map (lookedUp ms) xs) e in
     let a = names-few ms xs in
@@ -297,7 +298,7 @@ module _ (n : ℕ) (ks vs own : List ℕ) {f : Answer} (g : Form) (e : told (tok
         its-form (opening (labelsAt c ks vs) (fieldsFrom 0 m own)) g
         (ap (λ ls. opening ls (fieldsFrom 0 m own)) (sym (labels-carried c 0 n ks vs (h .0))) ∙ (rw z at e))
 
-few-labels : (c n : ℕ) (ks vs : List ℕ) → 2 * c ≤ n → n ≤ 256 → length (labelsAt c ks vs) ≤ 128
+few-labels : (c n : ℕ) (ks vs : List ℕ) → 2 * c ≤ n → n ≤ mostCells → length (labelsAt c ks vs) ≤ mostListed
 few-labels c n ks vs h short = rw (each-length (labelHere ks vs) 0 c) (omega (arith, h, short))
 
 module _ (n : ℕ) {f : Answer} (few : Few n f) where
@@ -307,14 +308,14 @@ module _ (n : ℕ) {f : Answer} (few : Few n f) where
   pub opening-fields : {room : ℕ} (c m : ℕ) → f ≡ Opening c m → n ≤ room → m ≤ room
   opening-fields c m z h = let g : (2 * c ≤ n) × (m ≤ n) = rw z at few in omega (arith, g .1, h)
 
-  module _ (short : n ≤ 256) (ks vs : List ℕ) where
-    pub few-labels-told : (c : ℕ) → f ≡ Labels c → length (labelsAt c ks vs) ≤ 128
+  module _ (short : n ≤ mostCells) (ks vs : List ℕ) where
+    pub few-labels-told : (c : ℕ) → f ≡ Labels c → length (labelsAt c ks vs) ≤ mostListed
     few-labels-told c z = few-labels c n ks vs (rw z at few) short
 
-    pub few-labels-before : (c m : ℕ) → f ≡ Instruction c m → length (labelsAt c ks vs) ≤ 128
+    pub few-labels-before : (c m : ℕ) → f ≡ Instruction c m → length (labelsAt c ks vs) ≤ mostListed
     few-labels-before c m z = let h : (2 * c ≤ n) × (m ≤ n) = rw z at few in few-labels c n ks vs (h .0) short
 
-    pub few-labels-opening : (c m : ℕ) → f ≡ Opening c m → length (labelsAt c ks vs) ≤ 128
+    pub few-labels-opening : (c m : ℕ) → f ≡ Opening c m → length (labelsAt c ks vs) ≤ mostListed
     few-labels-opening c m z = let h : (2 * c ≤ n) × (m ≤ n) = rw z at few in few-labels c n ks vs (h .0) short
 
 -- ---- a statement by its tokens
@@ -322,8 +323,8 @@ module _ (n : ℕ) {f : Answer} (few : Few n f) where
 pub lexemes-count : (n : ℕ) (cells ks vs : List ℕ) → length (lexemesFrom 0 n cells ks vs) ≡ n
 lexemes-count n cells ks vs = rw (lexemes-each 0 n cells ks vs) (each-length (λ i. lexemeOf cells _ _) 0 n)
 
-module _ (q : Program) (k n : ℕ) (cells ks vs ws : List ℕ) (short : n ≤ 256) (same : tokensFrom 0 n ks ws ≡ map (lookedUp (q .names)) (lexemesFrom 0 n cells ks vs)) where
-  pub few-names-told : form (tokensFrom 0 n ks ws) ≡ declaration → length (namesIn (lexemesFrom 0 n cells ks vs)) ≤ 128
+module _ (q : Program) (k n : ℕ) (cells ks vs ws : List ℕ) (short : n ≤ mostCells) (same : tokensFrom 0 n ks ws ≡ map (lookedUp (q .names)) (lexemesFrom 0 n cells ks vs)) where
+  pub few-names-told : form (tokensFrom 0 n ks ws) ≡ declaration → length (namesIn (lexemesFrom 0 n cells ks vs)) ≤ mostListed
   few-names-told e =
       few-declared
       (q .names)
@@ -353,7 +354,7 @@ lexedTold (toldTokens l) = l
 lexedTold unfitTokens = wrong 0
 
 module _ (s : Statement) where
-  pub few-told : {r : Lexing} (n : ℕ) → FewTokens s r → r ≡ Tokens n → s .length < 256 → n ≤ 256
+  pub few-told : {r : Lexing} (n : ℕ) → FewTokens s r → r ≡ Tokens n → s .length < mostCells → n ≤ mostCells
   few-told {r} n few e h =
       let g : n ≤ length (held s) = rw e at few in
       let l : length (held s) ≡ min (s .length) (length (s .cells)) = length-take (s .length) (s .cells) in
@@ -361,13 +362,13 @@ module _ (s : Statement) where
 
   module _ (r : Lexing) (before-ks before-vs ks vs : List ℕ) (e : lexedIn (held s) r ks vs ≡ lexedOf s before-ks before-vs) where
     -- what has tokens, or is refused, is short
-    pub short-tokens : (n : ℕ) → r ≡ Tokens n → s .length < 256
+    pub short-tokens : (n : ℕ) → r ≡ Tokens n → s .length < mostCells
     short-tokens n z = told-short s before-ks before-vs _ (rw z at e)
 
-    pub short-refused : (n : ℕ) → r ≡ Wrong n → s .length < 256
+    pub short-refused : (n : ℕ) → r ≡ Wrong n → s .length < mostCells
     short-refused n z = told-short s before-ks before-vs _ (rw z at e)
 
-    module _ (short : s .length < 256) (room : 256 ≤ length before-ks) (other-room : 256 ≤ length before-vs) where
+    module _ (short : s .length < mostCells) (room : mostCells ≤ length before-ks) (other-room : mostCells ≤ length before-vs) where
       all-told : lexedIn (held s) r ks vs ≡ toldTokens (lexemes (held s))
       all-told = e ∙ lexed-fit s before-ks before-vs short room other-room
 

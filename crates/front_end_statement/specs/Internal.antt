@@ -5,7 +5,7 @@ use mathlib.Core.List.{List}
 use lib.ListN.{length}
 use Rattle.source.specs.Tokens.{lexed}
 use Rattle.source.specs.Grammar.{declaration, Form as StatementForm}
-use Rattle.source.specs.Memory.{tokensFrom, lexemesFrom, lettersIn}
+use Rattle.source.specs.Memory.{mostListed, tokensFrom, lexemesFrom, lettersIn}
 use Rattle.source.specs.Program.{namesIn, inOrder, onLexed}
 use Rattle.grammar.specs.declared.Form.{Form}
 use Rattle.grammar.specs.Answers.{told, fieldsOf}
@@ -19,7 +19,7 @@ abbrev pub Dispatches : Form → Progress → ℕ → ℕ → List ℕ → List 
 Dispatches f p k n cells tokens spelled words own before-ns before-ls before-gs before-fs r ns ls gs fs =
     (g : StatementForm)
     → told (tokensFrom 0 n tokens words) f own ≡ fieldsOf g
-    → (g ≡ declaration → length (namesIn (lexemesFrom 0 n cells tokens spelled)) ≤ 128)
+    → (g ≡ declaration → length (namesIn (lexemesFrom 0 n cells tokens spelled)) ≤ mostListed)
     → Follows p k (lettersIn (namesIn (lexemesFrom 0 n cells tokens spelled))) before-ns before-ls before-gs before-fs r ns ls gs fs
     (λ q. inOrder q (q .stage) k (lexemesFrom 0 n cells tokens spelled) g)
 

@@ -14,6 +14,7 @@ use Rattle.sheet.specs.Sheet.{Expression}
 use Rattle.sheet.specs.Fields.{expressionFields}
 use Rattle.sheet_field.specs.Memory.{fieldsFrom}
 use Rattle.sheet_field.proofs.Stored.{fields-length}
+use Rattle.source.specs.Limits.{mostCells}
 use Rattle.source.specs.declared.Token.{Token}
 use Rattle.source.specs.Tokens.{markClose}
 use Rattle.source.specs.Grammar.{Read, read, none, next, past, opens, behindFirst, operandBy, chainBy, expressionIn, expression}
@@ -337,7 +338,7 @@ pub record Opening (n : ℕ) (ks vs fs₀ stack₀ : List ℕ) (s : Reading) (fs
   pub deep : length stack ≡ length stack₀
   pub to-come : (all : Read (List Field)) → Reached operandPass n ks vs fs₀ stack₀ s all → Reached operandPass n ks vs fs stack t all
 
-pub small-places : (b : ℕ) (p : Places) → b < 256 → WithinPlaces b p → Small p
+pub small-places : (b : ℕ) (p : Places) → b < mostCells → WithinPlaces b p → Small p
 small-places b p h w =
     record {
       low-small = omega (arith, h, w .low-within);

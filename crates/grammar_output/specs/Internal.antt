@@ -34,14 +34,14 @@ abbrev pub Moved : ℕ → ℕ → ℕ → ℕ → Step → Type 0
 Moved d n at out (At a o) = (at + d ≤ a) × (a ≤ n) × (out ≤ o) × (o + at ≤ a + out)
 Moved d n at out Missing = Unit {0}
 
--- places that fit a byte each, and the number that holds them
+-- places among the cells of a statement, and the number that holds them
 pub record Small (p : Places) : Type 0 where
-  pub low-small : p .low < 256
-  pub middle-small : p .middle < 256
-  pub high-small : p .high < 256
+  pub low-small : p .low < mostCells
+  pub middle-small : p .middle < mostCells
+  pub high-small : p .high < mostCells
 
 abbrev pub placesWord : Places → ℕ
-placesWord p = p .low + p .middle * 256 + p .high * 65536
+placesWord p = p .low + (p .middle + p .high * mostCells) * mostCells
 
 abbrev pub HeldBy : ℕ → Places → Type 0
 HeldBy w q = (p : Places) → Small p → w ≡ placesWord p → q ≡ p

@@ -4,6 +4,7 @@ use sheet::Field;
 use sheet::Operator;
 use sheet_field::kind_of;
 use sheet_field::value_of;
+use source::MOST_CELLS;
 ghost use mathlib.Core.List.{[], _∷_, _++_};
 ghost use mathlib.Core.Path.{_≡_};
 ghost use Prim.Native.Nat.{_+_, _<_, _≤_};
@@ -56,21 +57,21 @@ pub struct Places {
     pub high: usize,
 }
 
-// Three places as one number, a byte each.
+// Three places among the cells of a statement, as one number.
 pub fn word_of(p: Places) -> u32
     requires { ⌜ Small p ⌝ }
     ensures { λ r. ⌜ r ≡ placesWord p ⌝ }
 {
-    p.low as u32 + p.middle as u32 * 256 + p.high as u32 * 65536
+    p.low as u32 + (p.middle as u32 + p.high as u32 * MOST_CELLS as u32) * MOST_CELLS as u32
 }
 
 pub fn places_of(w: u32) -> Places
     ensures { λ r. ⌜ HeldBy w r ⌝ }
 {
     Places {
-        low: w as usize % 256,
-        middle: w as usize / 256 % 256,
-        high: w as usize / 65536,
+        low: w as usize % MOST_CELLS,
+        middle: w as usize / MOST_CELLS % MOST_CELLS,
+        high: w as usize / MOST_CELLS / MOST_CELLS,
     }
 }
 

@@ -13,7 +13,7 @@ use Rattle.base.specs.Places.{each}
 use Rattle.base.proofs.Cases.{by-test, by-equal, both-yes}
 use Rattle.base.proofs.Places.{each-more, each-over, each-append, each-same, each-length}
 use Rattle.source.specs.Limits.{greatestLabel}
-use Rattle.source.specs.Memory.{tableRows}
+use Rattle.source.specs.Memory.{labelRows}
 use Rattle.source.specs.Program.{next, Label, label, isSet, canSet, labelsSet}
 use Rattle.labels.specs.declared.Found.the-variants.{Number, Missing}
 use Rattle.labels.specs.declared.Set.{Set}
@@ -91,11 +91,11 @@ module _ (l : List ℕ) (count n x : ℕ) where
     pub twice-set : (m : ℕ) → Number m ≡ foundOf n (labelsOf n count l) x → SetsOne l count n x Refuses l
     twice-set m g = record { kept = refl; in-rows = tt; told = λ room ls. set-twice (labelsOf n count l) x ls e h (found-told n (labelsOf n count l) x m g) }
 
-    pub no-row : tableRows ≤ count → SetsOne l count n x NotFit l
+    pub no-row : labelRows ≤ count → SetsOne l count n x NotFit l
     no-row full = record { kept = refl; in-rows = tt; told = λ room. absurd (omega (arith, room .rows)) }
 
     pub one-set : (after : List ℕ) → after ≡ set l count (x * spotNumbers + n % spotNumbers) → length after ≡ length l
-        → Missing ≡ foundOf n (labelsOf n count l) x → count < tableRows → SetsOne l count n x (Sets (count + 1)) after
+        → Missing ≡ foundOf n (labelsOf n count l) x → count < labelRows → SetsOne l count n x (Sets (count + 1)) after
     one-set after put kept g row = record {
       kept = kept;
       in-rows = (refl, omega arith);
@@ -180,27 +180,27 @@ module _ (l : List ℕ) (count n : ℕ) (f : ℕ → ℕ) (many : ℕ) where
 
 -- ---- any table
 
-pub other-size : (size many s : ℕ) → (size ≡ tableRows → ⊥) → false ≡ fit size many s
+pub other-size : (size many s : ℕ) → (size ≡ labelRows → ⊥) → false ≡ fit size many s
 unfolding pick
-other-size size many s n = rw (ne-eqb size tableRows n) refl
+other-size size many s n = rw (ne-eqb size labelRows n) refl
 
-module _ (size many s : ℕ) (e : size ≡ tableRows) where
-  pub too-many : tableRows < many → false ≡ fit size many s
+module _ (size many s : ℕ) (e : size ≡ labelRows) where
+  pub too-many : labelRows < many → false ≡ fit size many s
   unfolding pick
-  too-many h = rw (eq-eqb size tableRows e, lt-leb many tableRows h) refl
+  too-many h = rw (eq-eqb size labelRows e, lt-leb many labelRows h) refl
 
-  pub whole-table : many ≤ tableRows → ltb s instructionNumbers ≡ fit size many s
+  pub whole-table : many ≤ labelRows → ltb s instructionNumbers ≡ fit size many s
   unfolding pick
-  whole-table h = rw (eq-eqb size tableRows e, le-leb many tableRows h) refl
+  whole-table h = rw (eq-eqb size labelRows e, le-leb many labelRows h) refl
 
 module _ (l : List ℕ) (count n : ℕ) (ls : List ℕ) where
   fits : fit (length l) (count + length ls) n ≡ true → Room l (count + length ls) n
   fits e =
-      let one = both-yes (eqb (length l) tableRows) (pick (leb (count + length ls) tableRows) (ltb n instructionNumbers) false) e in
-      let two = both-yes (leb (count + length ls) tableRows) (ltb n instructionNumbers) (one .1) in
+      let one = both-yes (eqb (length l) labelRows) (pick (leb (count + length ls) labelRows) (ltb n instructionNumbers) false) e in
+      let two = both-yes (leb (count + length ls) labelRows) (ltb n instructionNumbers) (one .1) in
       record {
-        whole = eqb-true (length l) tableRows (one .0);
-        rows = leb-true (count + length ls) tableRows (two .0);
+        whole = eqb-true (length l) labelRows (one .0);
+        rows = leb-true (count + length ls) labelRows (two .0);
         few = ltb-true n instructionNumbers (two .1);
       }
 
@@ -221,8 +221,8 @@ module _ (l : List ℕ) (count n : ℕ) (ls : List ℕ) where
   unfolding setOf pick
   set-whole room =
       rw (
-        eq-eqb (length l) tableRows (room .whole),
-        le-leb (count + length ls) tableRows (room .rows),
+        eq-eqb (length l) labelRows (room .whole),
+        le-leb (count + length ls) labelRows (room .rows),
         lt-ltb n instructionNumbers (room .few),
       ) refl
 

@@ -7,7 +7,7 @@ use mathlib.Core.List.{List, _++_}
 use lib.Dec.{ltb, leb, eqb}
 use lib.ListN.{length}
 use Rattle.base.specs.Choice.{pick}
-use Rattle.source.specs.Memory.{tableRows}
+use Rattle.source.specs.Memory.{labelRows}
 use Rattle.source.specs.Program.{Label, isSet, canSet, labelsSet, moved, putOff, takenUp, numberOf}
 use Rattle.labels.specs.declared.Set.{Set}
 use Rattle.labels.specs.declared.Set.the-variants.{Labels as Sets, Refused as Refuses, Unfit as NotFit}
@@ -39,7 +39,7 @@ setAll ms ls = pick (canSet ms ls) (labels (ms ++ labelsSet ls)) (refusal 9)
 
 -- whether a table has its rows, they are enough for so many labels, and an instruction's number has its place in them
 abbrev pub fit : ℕ → ℕ → ℕ → Bool
-fit size many n = pick (eqb size tableRows) (pick (leb many tableRows) (ltb n instructionNumbers) false) false
+fit size many n = pick (eqb size labelRows) (pick (leb many labelRows) (ltb n instructionNumbers) false) false
 
 -- what setting the labels ls does, behind the first labels of a table
 unfoldable pub setOf : ℕ → ℕ → List ℕ → List ℕ → Labels

@@ -5,7 +5,7 @@ use mathlib.Core.Path.{_≡_}
 use lib.Dec.{eqb}
 use lib.ListN.{length, getD}
 use Rattle.base.specs.Choice.{pick}
-use Rattle.source.specs.Memory.{tableRows}
+use Rattle.source.specs.Memory.{labelRows}
 use Rattle.labels.specs.declared.Set.{Set}
 use Rattle.labels.specs.declared.Set.the-variants.{Labels as Sets, Refused as Refuses, Unfit as NotFit}
 use Rattle.labels.specs.Memory.{spotNumbers, instructionNumbers, labelsOf, SoFar}
@@ -13,8 +13,8 @@ use Rattle.labels.specs.Answers.{setIn, setAll, refusal, SoFarIn}
 
 -- there is room for so many labels
 pub record Room (l : List ℕ) (many n : ℕ) : Type 0 where
-  pub whole : length l ≡ tableRows
-  pub rows : many ≤ tableRows
+  pub whole : length l ≡ labelRows
+  pub rows : many ≤ labelRows
   pub few : n < instructionNumbers
 
 -- one label more: what comes of others behind it
@@ -30,7 +30,7 @@ OneIn l count n label NotFit after = ⊥
 
 -- a row of the table was left
 abbrev pub InRows : ℕ → Set → Type 0
-InRows count (Sets c) = (c ≡ count + 1) × (c ≤ tableRows)
+InRows count (Sets c) = (c ≡ count + 1) × (c ≤ labelRows)
 InRows count Refuses = Unit {0}
 InRows count NotFit = Unit {0}
 

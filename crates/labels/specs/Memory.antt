@@ -8,13 +8,13 @@ use Rattle.base.specs.Places.{each}
 use Rattle.source.specs.Memory.{tokenOf, tokenCarried}
 use Rattle.source.specs.Program.{Spot, before, next, behind, Label, label}
 
--- a label stands in memory with the number of its spot, which is less than this
+-- a label stands in the upper half of a word, and the number of its spot in the lower half
 abbrev pub spotNumbers : ℕ
-spotNumbers = 4096
+spotNumbers = 65536
 
 -- the numbers of instructions are less than this; from it on come the spots behind first parts
 abbrev pub instructionNumbers : ℕ
-instructionNumbers = 2048
+instructionNumbers = 32768
 
 -- the spot with a number, where n is the number of the instruction that comes next
 abbrev pub spotIn : ℕ → ℕ → Spot

@@ -2,7 +2,7 @@
 // instruction after it, also while that is to come; behind the last instruction of a first part it is BEHIND and the number of
 // groups that are open round the IF.
 use source::GREATEST_LABEL;
-use source::TABLE_ROWS;
+use source::LABEL_ROWS;
 use token_number::token_at;
 use token_number::value_of;
 ghost use mathlib.Core.Path.{_≡_};
@@ -13,9 +13,9 @@ ghost use Rattle.labels.specs.Answers.{foundOf, fit, SetsLabels, PutsOff
 ghost use Rattle.labels.specs.Internal.{SetsOne, SetsAll, movedEntry, Moves};
 
 // `spotNumbers` and `instructionNumbers` of specs/Memory.antt.
-const SPOTS: u32 = 4096;
+const SPOTS: u32 = 65536;
 
-const BEHIND: u32 = 2048;
+const BEHIND: u32 = 32768;
 
 // How many labels are set now; that one of them cannot be; or that the table is not fit for them.
 pub enum Set {
@@ -68,7 +68,7 @@ fn set_label(labels: &mut [u32], count: u32, next: u32, l: u32) -> Set
     if let Found::Number(_) = number_of(labels, count, next, l) {
         return Set::Refused;
     }
-    if TABLE_ROWS <= count {
+    if LABEL_ROWS <= count as usize {
         return Set::Unfit;
     }
     base::put_word(labels, count as usize, l * SPOTS + next % SPOTS);
@@ -106,13 +106,13 @@ fn set_all(
 fn is_fit(size: usize, count: u32, many: usize, s: u32) -> bool
     ensures { λ r. ⌜ r ≡ fit size (count + many) s ⌝ }
 {
-    if size != TABLE_ROWS as usize {
+    if size != LABEL_ROWS {
         return false;
     }
-    if (TABLE_ROWS as usize) < many {
+    if LABEL_ROWS < many {
         return false;
     }
-    if (TABLE_ROWS as usize) < count as usize + many {
+    if LABEL_ROWS < count as usize + many {
         return false;
     }
     s < BEHIND

@@ -1,5 +1,5 @@
 -- A name added to those that stand in memory.
-use Prim.Native.Nat.{ℕ, suc, _+_, _-_, _*_, _/_, _%_, _<_, _≤_}
+use Prim.Native.Nat.{ℕ, suc, _+_, _-_, _%_, _<_, _≤_}
 use mathlib.Core.Bool.{true, false}
 use mathlib.Core.Path.{_≡_, refl, sym, ap, ap₂, _∙_}
 use mathlib.Core.List.{List, [], _∷_, _++_, append-nil, append-assoc}
@@ -10,19 +10,19 @@ use lib.ListN.{length, getD, take, drop, set, length-drop, length-append, take-a
 use lib.Seq.{sets, take-all, take-length, drop-drop, sets-eq, length-sets, take-at, drop-at, take-append-le, drop-append-le, length-take-le, getD-set-same, getD-set-other, getD-append-seam, take-set-le}
 use Rattle.base.specs.Choice.{pick}
 use Rattle.base.proofs.Cases.{by-test, by-less, by-equal}
-use Rattle.source.specs.Limits.{mostBytes}
-use Rattle.source.specs.Memory.{tableRows, lettersIn}
+use Rattle.source.specs.Limits.{mostBytes, mostCells}
+use Rattle.source.specs.Memory.{nameRows, lettersIn}
 use Rattle.source.proofs.Letters.{letters-append}
 use Rattle.name_index.specs.declared.Side.the-variants.{Before}
 use Rattle.name_index.specs.Order.{sideOf}
-use Rattle.name_index.specs.Memory.{nameIn, nameAt, RowOf, Indexed, NamesHeld}
+use Rattle.name_index.specs.Memory.{rowWith, beginIn, manyIn, numberIn, nameIn, nameAt, RowOf, Indexed, NamesHeld}
 use Rattle.name_index.specs.Answers.{Fits, hasRoom}
 use Rattle.name_index.specs.Internal.{Inserted, Shifted}
 use Rattle.name_index.proofs.Order.{after-before}
 
 -- ---- no names
 
-pub none-held : {letters index : List ℕ} → length letters ≡ mostBytes → length index ≡ tableRows → NamesHeld [] 0 0 letters index
+pub none-held : {letters index : List ℕ} → length letters ≡ mostBytes → length index ≡ nameRows → NamesHeld [] 0 0 letters index
 unfolding lettersIn
 none-held whole rows-whole = record {
   counted = refl;
@@ -43,23 +43,23 @@ module _ {ns : List (List ℕ)} {v filled : ℕ} {letters index : List ℕ} (hel
   abbrev its-letters : filled ≡ lettersIn ns
   its-letters = held .lettered
 
-  pub some-room : v < tableRows → filled + length name ≤ mostBytes → hasRoom ns name ≡ true
+  pub some-room : v < nameRows → filled + length name ≤ mostBytes → hasRoom ns name ≡ true
   unfolding pick
   some-room rows room =
       let c = its-count in
       let l = its-letters in
-      rw (lt-ltb (length ns) tableRows (omega (arith, c, rows)), le-leb (lettersIn ns + length name) mostBytes (omega (arith, l, room))) refl
+      rw (lt-ltb (length ns) nameRows (omega (arith, c, rows)), le-leb (lettersIn ns + length name) mostBytes (omega (arith, l, room))) refl
 
-  pub no-row : tableRows ≤ v → hasRoom ns name ≡ false
+  pub no-row : nameRows ≤ v → hasRoom ns name ≡ false
   unfolding pick
-  no-row full = let c = its-count in rw (le-ltb (length ns) tableRows (omega (arith, c, full))) refl
+  no-row full = let c = its-count in rw (le-ltb (length ns) nameRows (omega (arith, c, full))) refl
 
   pub no-letters : mostBytes < filled + length name → hasRoom ns name ≡ false
   unfolding pick
   no-letters full =
       let l = its-letters in
       rw (lt-leb (lettersIn ns + length name) mostBytes (omega (arith, l, full)))
-      (by-test (ltb (length ns) tableRows) (λ t. rw t refl) (λ t. rw t refl))
+      (by-test (ltb (length ns) nameRows) (λ t. rw t refl) (λ t. rw t refl))
 
 -- ---- rows moved by one
 
@@ -141,13 +141,13 @@ unfolding lettersIn
 letters-one n = omega arith
 
 module _ {ns : List (List ℕ)} {v filled place : ℕ} {letters index after name : List ℕ} (held : NamesHeld ns v filled letters index)
-    (fits : Fits name letters index v place) (short : length name < 256) (rows : v < tableRows) (room : filled + length name ≤ mostBytes)
-    (inserted : Inserted v place (filled * 65536 + length name % 256 * 256 + v) index after) (kept : length after ≡ length index) where
+    (fits : Fits name letters index v place) (short : length name < mostCells) (rows : v < nameRows) (room : filled + length name ≤ mostBytes)
+    (inserted : Inserted v place (rowWith filled (length name % mostCells) v) index after) (kept : length after ≡ length index) where
   abbrev all : List (List ℕ)
   all = ns ++ name ∷ []
 
   abbrev row : ℕ
-  row = filled * 65536 + length name % 256 * 256 + v
+  row = rowWith filled (length name % mostCells) v
 
   abbrev whole : filled + length name ≤ length letters
   whole = rw (held .room-for-letters) room
@@ -155,10 +155,10 @@ module _ {ns : List (List ℕ)} {v filled place : ℕ} {letters index after name
   more : length all ≡ v + 1
   more = length-append ns (name ∷ []) ∙ ap (λ n. n + 1) (sym (held .counted))
 
-  its-length : row / 256 % 256 ≡ length name
+  its-length : manyIn row ≡ length name
   its-length = omega (arith, short, rows)
 
-  its-start : row / 65536 ≡ filled
+  its-start : beginIn row ≡ filled
   its-start = omega (arith, short, rows)
 
   new-name : nameIn (stored letters filled name whole) row ≡ name
@@ -167,7 +167,7 @@ module _ {ns : List (List ℕ)} {v filled place : ℕ} {letters index after name
   new-row : RowOf all (filled + length name) (stored letters filled name whole) row
   new-row =
       let m = more in
-      let a : row % 256 ≡ v = omega (arith, rows) in
+      let a : numberIn row ≡ v = omega (arith, rows) in
       record {
         numbered = omega (arith, a, m);
         named = new-name ∙ sym (ap (λ k. getD all k []) (a ∙ held .counted) ∙ getD-append-seam ns name [] []);
@@ -176,7 +176,7 @@ module _ {ns : List (List ℕ)} {v filled place : ℕ} {letters index after name
 
   module _ (e : ℕ) (r : RowOf ns filled letters e) where
     old-name : nameIn (stored letters filled name whole) e ≡ nameIn letters e
-    old-name = stored-before letters filled name whole (e / 65536) (e / 256 % 256) (r .inside)
+    old-name = stored-before letters filled name whole (beginIn e) (manyIn e) (r .inside)
 
     old-row : RowOf all (filled + length name) (stored letters filled name whole) e
     old-row =
@@ -184,7 +184,7 @@ module _ {ns : List (List ℕ)} {v filled place : ℕ} {letters index after name
         let c = held .counted in
         record {
           numbered = omega (arith, r .numbered, m, c);
-          named = old-name ∙ r .named ∙ sym (List·getD-append ns (name ∷ []) [] (e % 256) (r .numbered));
+          named = old-name ∙ r .named ∙ sym (List·getD-append ns (name ∷ []) [] (numberIn e) (r .numbered));
           inside = omega (arith, r .inside);
         }
 
@@ -236,19 +236,19 @@ module _ {ns : List (List ℕ)} {v filled place : ℕ} {letters index after name
       let its = held .indexed k l in
       let inside = its .inside in
       by-less (its .place) place
-      (λ b. record { place = its .place; inside = omega (arith, inside); numbered = ap (λ e. e % 256) (inserted .before (its .place) b) ∙ its .numbered })
+      (λ b. record { place = its .place; inside = omega (arith, inside); numbered = ap numberIn (inserted .before (its .place) b) ∙ its .numbered })
       (λ b. record {
         place = its .place + 1;
         inside = omega (arith, inside);
         numbered =
-            ap (λ e. e % 256) (inserted .behind (its .place + 1) (omega (arith, b)) (omega (arith, inside)))
-            ∙ ap (λ i. getD index i 0 % 256) (let e : its .place + 1 - 1 ≡ its .place = omega arith in e)
+            ap numberIn (inserted .behind (its .place + 1) (omega (arith, b)) (omega (arith, inside)))
+            ∙ ap (λ i. numberIn (getD index i 0)) (let e : its .place + 1 - 1 ≡ its .place = omega arith in e)
             ∙ its .numbered;
       }))
       (λ l. record {
         place = place;
         inside = omega (arith, p);
-        numbered = ap (λ e. e % 256) (inserted .here) ∙ (let e : row % 256 ≡ k = omega (arith, rows, l, h) in e);
+        numbered = ap numberIn (inserted .here) ∙ (let e : numberIn row ≡ k = omega (arith, rows, l, h) in e);
       })
 
   all-held : NamesHeld all (v + 1) (filled + length name) (sets letters filled name) after

@@ -10,6 +10,7 @@ use lib.ListN.{length, getD, take, drop, drop-of-length-le, length-take}
 use Rattle.base.specs.Choice.{pick}
 use Rattle.base.proofs.Cases.{by-test, by-less, by-equal, both-yes}
 use Rattle.base.proofs.Lists.{drop-more}
+use Rattle.source.specs.Limits.{mostCells}
 use Rattle.source.specs.Program.{sameName}
 use Rattle.name_index.specs.declared.Side.{Side}
 use Rattle.name_index.specs.declared.Side.the-variants.{Before, Same, After}
@@ -169,10 +170,10 @@ other-name a b n = by-test (sameName a b) (λ e. absurd (n (same-name-is a b e))
 
 -- ---- two names compared
 
--- one whose length a byte tells is short enough
-pub short-part : (l p : List ℕ) (at n : ℕ) → p ≡ take (n % 256) (drop at l) → length p < 256
+-- one whose length a row or a token tells is short enough
+pub short-part : (l p : List ℕ) (at n : ℕ) → p ≡ take (n % mostCells) (drop at l) → length p < mostCells
 short-part l p at n e =
-    let m : length p ≡ min (n % 256) (length (drop at l)) = ap length e ∙ length-take (n % 256) (drop at l) in
+    let m : length p ≡ min (n % mostCells) (length (drop at l)) = ap length e ∙ length-take (n % mostCells) (drop at l) in
     omega (arith, m)
 
 pub shorter-before : (a b : List ℕ) → length a < length b → Before ≡ sideOf a b

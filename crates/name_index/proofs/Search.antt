@@ -12,7 +12,7 @@ use Rattle.source.specs.Program.{wordFrom}
 use Rattle.name_index.specs.declared.Side.{Side}
 use Rattle.name_index.specs.declared.Side.the-variants.{Before, Same, After}
 use Rattle.name_index.specs.Order.{sideOf}
-use Rattle.name_index.specs.Memory.{nameAt, NamesHeld}
+use Rattle.name_index.specs.Memory.{numberIn, nameAt, NamesHeld}
 use Rattle.name_index.specs.Answers.{Searches, nowhere, here, first-half, second-half, sideAt, wordAt, FewComparisons, AsAsked, Fits}
 use Rattle.name_index.proofs.Order.{after-before, before-after, before-all, side-same, side-self, never-before-itself, not-same-before, not-same-after, not-both, same-name-self, other-name}
 
@@ -41,6 +41,9 @@ pub as-asked : (v n : ℕ) → FewComparisons v n → AsAsked v n
 as-asked v n few d h =
     let some = power-some d in
     few (7 + d) (rw (pow-add 2 7 d) (omega (arith, h, some)))
+
+pub at-128 : (v n : ℕ) → FewComparisons v n → v ≤ 128 → n ≤ 8
+at-128 v n few h = as-asked v n few 1 h
 
 -- the bound is met: among 2^d names, each of which the sought one stands before
 pub bound-met : (word : ℕ → ℕ) (d : ℕ) → Searches (λ i. Before) word 0 (2 ^ d) 0 0 (suc d)
@@ -176,12 +179,12 @@ module _ {ns : List (List ℕ)} {v filled : ℕ} {letters index : List ℕ} (hel
       let b : place < v = omega (arith, inside) in
       let row = held .rows place b in
       let known : name ≡ nameAt letters index place = side-same name _ e in
-      z ∙ word-first ns name 2 (getD index place 0 % 256) (row .numbered) (sym (row .named) ∙ sym known)
+      z ∙ word-first ns name 2 (numberIn (getD index place 0)) (row .numbered) (sym (row .named) ∙ sym known)
       (λ j l g.
       let other = held .indexed j (let c = held .counted in omega (arith, c, l, row .numbered)) in
       let its-row = held .rows (other .place) (other .inside) in
       let same-place = numbered-once (other .place) place (other .inside) b (its-row .named ∙ ap (λ k. getD ns k []) (other .numbered) ∙ g ∙ known) in
-      let number : getD index place 0 % 256 ≡ j = sym (ap (λ i. getD index i 0 % 256) same-place) ∙ other .numbered in
+      let number : numberIn (getD index place 0) ≡ j = sym (ap (λ i. numberIn (getD index i 0)) same-place) ∙ other .numbered in
       absurd (omega (arith, number, l)))
   by-end (missing z a b behind before) =
       z ∙ word-unknown ns name 2

@@ -1,20 +1,20 @@
 -- What a lookup and an addition do. Comments in quotes are the words of document 02, L2.
-use Prim.Native.Nat.{ℕ, suc, _+_, _-_, _*_, _/_, _%_, _^_, _≤_, _<_}
+use Prim.Native.Nat.{ℕ, suc, _+_, _-_, _*_, _/_, _^_, _≤_, _<_}
 use mathlib.Core.Bool.{Bool, true, false}
 use mathlib.Core.Path.{_≡_}
 use mathlib.Core.List.{List, [], _∷_, _++_}
 use lib.Dec.{ltb, leb}
 use lib.ListN.{length, getD}
 use Rattle.base.specs.Choice.{pick}
-use Rattle.source.specs.Limits.{mostBytes}
-use Rattle.source.specs.Memory.{tableRows, lettersIn}
+use Rattle.source.specs.Limits.{mostBytes, mostCells}
+use Rattle.source.specs.Memory.{nameRows, lettersIn}
 use Rattle.source.specs.Program.{wordFrom}
 use Rattle.name_index.specs.declared.Side.{Side}
 use Rattle.name_index.specs.declared.Side.the-variants.{Before, Same, After}
 use Rattle.name_index.specs.declared.Added.{Added}
 use Rattle.name_index.specs.declared.Added.the-variants.{Names, Unfit}
 use Rattle.name_index.specs.Order.{sideOf}
-use Rattle.name_index.specs.Memory.{nameAt, NamesHeld}
+use Rattle.name_index.specs.Memory.{numberIn, nameAt, NamesHeld}
 
 -- ---- a lookup
 
@@ -24,7 +24,7 @@ sideAt name letters index i = sideOf name (nameAt letters index i)
 
 -- the word of the name at place i; the first declared has word 2
 abbrev pub wordAt : List ℕ → ℕ → ℕ
-wordAt index i = getD index i 0 % 256 + 2
+wordAt index i = numberIn (getD index i 0) + 2
 
 -- a search by halves among `left` places from `from` on: the word found, or 0, where it stands or would stand, and how many
 -- comparisons were made
@@ -60,7 +60,7 @@ pub record Fits (name letters index : List ℕ) (v place : ℕ) : Type 0 where
 
 -- whether there is room for a name behind others
 abbrev pub hasRoom : List (List ℕ) → List ℕ → Bool
-hasRoom ns name = pick (ltb (length ns) tableRows) (leb (lettersIn ns + length name) mostBytes) false
+hasRoom ns name = pick (ltb (length ns) nameRows) (leb (lettersIn ns + length name) mostBytes) false
 
 abbrev pub AddedTo : List (List ℕ) → List ℕ → Added → List ℕ → List ℕ → Type 0
 AddedTo ns name (Names v filled) letters index = (hasRoom ns name ≡ true) × NamesHeld (ns ++ name ∷ []) v filled letters index
@@ -71,5 +71,5 @@ Adds v filled place name before-letters before-index r letters index =
     (ns : List (List ℕ))
     → NamesHeld ns v filled before-letters before-index
     → Fits name before-letters before-index v place
-    → length name < 256
+    → length name < mostCells
     → AddedTo ns name r letters index

@@ -1,15 +1,17 @@
 // The names of a program in memory. Their letters stand one behind the other, in the order of declaration. The index has a row for
-// each name, in the order of the names: where its letters begin, times 256, and how many there are; that times 256, and the number
-// of the name, from 0.
+// each name, in the order of the names: where its letters begin, times MOST_CELLS, and how many there are; that times NAME_ROWS, and
+// the number of the name, from 0.
 use base::part;
 use bytes::copy;
 use source::MOST_BYTES;
-use source::TABLE_ROWS;
+use source::MOST_CELLS;
+use source::NAME_ROWS;
 ghost use mathlib.Core.Path.{_≡_};
 ghost use Prim.Native.Nat.{_<_, max};
 ghost use lib.Dec.{eqb};
 ghost use lib.ListN.{length};
 ghost use Rattle.base.specs.Choice.{pick};
+ghost use Rattle.source.specs.Limits.{mostCells};
 ghost use Rattle.name_index.specs.Order.{letterSide, sideOf};
 ghost use Rattle.name_index.specs.Answers.{Searches, sideAt, wordAt, FewComparisons, FindsWord, Adds};
 ghost use Rattle.name_index.specs.Internal.{Inserts};
@@ -31,7 +33,7 @@ pub struct Found {
 
 // How many names there are now, and how many letters they have; or that there is no room for one more.
 pub enum Added {
-    Names(u8, u32),
+    Names(u32, u32),
     Unfit,
 }
 
@@ -48,8 +50,11 @@ fn letter_side(a: u8, b: u8) -> Side
     Side::Same
 }
 
+// A place in a name, from 1 on: a name in memory has fewer than MOST_CELLS letters.
+type Place = u8;
+
 // A place where two letters differ, else 0.
-fn differing(a: u8, b: u8, place: u8) -> u8
+fn differing(a: u8, b: u8, place: Place) -> Place
     ensures { λ r. ⌜ r ≡ pick (eqb a b) 0 place ⌝ }
 {
     if a == b {
@@ -59,7 +64,7 @@ fn differing(a: u8, b: u8, place: u8) -> u8
 }
 
 // The larger of two places.
-fn further(a: u8, b: u8) -> u8
+fn further(a: Place, b: Place) -> Place
     ensures { λ r. ⌜ r ≡ max a b ⌝ }
 {
     if a < b {
@@ -71,13 +76,13 @@ fn further(a: u8, b: u8) -> u8
 // Compares two names of one length by the last letter in which they differ. The loop goes over all letters, whatever they are, so
 // that the machine can take many at once.
 fn by_letters(a: &[u8], b: &[u8]) -> Side
-    requires { ⌜ (length (now a) ≡ length (now b)) × (length (now b) < 256) ⌝ }
+    requires { ⌜ (length (now a) ≡ length (now b)) × (length (now b) < mostCells) ⌝ }
     ensures { λ r. ⌜ r ≡ sideOf (now (a .entry)) (now (b .entry)) ⌝ }
 {
     let mut i = 0;
-    let mut last: u8 = 0;
+    let mut last: Place = 0;
     while i < a.len() {
-        last = further(last, differing(a[i], b[i], (i + 1) as u8));
+        last = further(last, differing(a[i], b[i], (i + 1) as Place));
         i += 1;
     }
     if last == 0 {
@@ -87,10 +92,10 @@ fn by_letters(a: &[u8], b: &[u8]) -> Side
     letter_side(a[k], b[k])
 }
 
-// Compares the name a with the name b, which has fewer than 256 letters, as every name in memory. Most names that differ have other
-// lengths or other last letters: these are compared first.
+// Compares the name a with the name b, which has fewer than MOST_CELLS letters, as every name in memory. Most names that differ have
+// other lengths or other last letters: these are compared first.
 pub fn compare(a: &[u8], b: &[u8]) -> Side
-    requires { ⌜ length (now b) < 256 ⌝ }
+    requires { ⌜ length (now b) < mostCells ⌝ }
     ensures { λ r. ⌜ r ≡ sideOf (now (a .entry)) (now (b .entry)) ⌝ }
 {
     if a.len() < b.len() {
@@ -113,7 +118,7 @@ pub fn compare(a: &[u8], b: &[u8]) -> Side
 }
 
 // Looks a name up among the v names of an index, by halves.
-pub fn find(letters: &[u8], index: &[u32], v: u8, name: &[u8]) -> Found
+pub fn find(letters: &[u8], index: &[u32], v: u32, name: &[u8]) -> Found
     ensures made { λ r. ⌜ Searches (sideAt (now (name .entry)) (now (letters .entry)) (now (index .entry))) (wordAt (now (index .entry))) 0 v (r .word) (r .place) (r .comparisons) ⌝ }
     ensures few { λ r. ⌜ FewComparisons v (r .comparisons) ⌝ }
     ensures found { λ r. ⌜ FindsWord (now (name .entry)) v (now (letters .entry)) (now (index .entry)) (r .word) ⌝ }
@@ -124,12 +129,16 @@ pub fn find(letters: &[u8], index: &[u32], v: u8, name: &[u8]) -> Found
     while 0 < left {
         let half = left / 2;
         let row = base::word_at(index, from + half);
-        let declared = part(letters, row as usize / 65536, row as usize / 256 % 256);
+        let declared = part(
+            letters,
+            row as usize / NAME_ROWS / MOST_CELLS,
+            row as usize / NAME_ROWS % MOST_CELLS,
+        );
         comparisons += 1;
         match compare(name, declared) {
             Side::Before => left = half,
             Side::Same => return Found {
-                word: row % 256 + 2,
+                word: row % NAME_ROWS as u32 + 2,
                 place: from + half,
                 comparisons,
             },
@@ -163,14 +172,14 @@ fn insert(index: &mut [u32], v: usize, place: usize, row: u32)
 pub fn add(
     letters: &mut [u8],
     index: &mut [u32],
-    v: u8,
+    v: u32,
     filled: u32,
     place: usize,
     name: &[u8],
 ) -> Added
     ensures { λ r. ⌜ Adds v filled place (now (name .entry)) (now (letters .entry)) (now (index .entry)) r (now (letters .exit)) (now (index .exit)) ⌝ }
 {
-    if TABLE_ROWS <= v as u32 {
+    if NAME_ROWS <= v as usize {
         return Added::Unfit;
     }
     if letters.len() != MOST_BYTES {
@@ -184,7 +193,8 @@ pub fn add(
         return Added::Unfit;
     }
     copy(name, &mut letters[at..]);
-    let row = filled * 65536 + (name.len() % 256) as u32 * 256 + v as u32;
+    let many = (name.len() % MOST_CELLS) as u32;
+    let row = (filled * MOST_CELLS as u32 + many) * NAME_ROWS as u32 + v;
     insert(index, v as usize, place, row);
     Added::Names(v + 1, filled + name.len() as u32)
 }

@@ -12,10 +12,10 @@ use Rattle.base.specs.Choice.{pick}
 use Rattle.base.specs.Places.{each}
 use Rattle.base.proofs.Cases.{by-test}
 use Rattle.base.proofs.Places.{each-more, each-over}
-use Rattle.source.specs.Limits.{mostBytes}
+use Rattle.source.specs.Limits.{mostBytes, mostCells}
 use Rattle.source.specs.Tokens.{Lexeme, name, token}
 use Rattle.source.specs.Program.{wordOf, canDeclare, namesIn}
-use Rattle.source.specs.Memory.{lexemeOf, lexemesFrom, tableRows, lettersIn}
+use Rattle.source.specs.Memory.{lexemeOf, lexemesFrom, nameRows, lettersIn}
 use Rattle.source.proofs.Stored.{lexemes-each}
 use Rattle.source.proofs.Letters.{letters-append}
 use Rattle.name_index.specs.declared.Added.{Added}
@@ -63,7 +63,7 @@ pub no-name : (cells : List ℕ) (k v : ℕ) → (k ≡ 0 → ⊥) → namesIn (
 unfolding lexemeOf namesIn pick
 no-name cells k v n = rw (ne-eqb k 0 n) refl
 
-module _ (cells : List ℕ) (k v : ℕ) (n : List ℕ) (e : n ≡ take (v % 256) (drop (v / 256) cells)) where
+module _ (cells : List ℕ) (k v : ℕ) (n : List ℕ) (e : n ≡ take (v % mostCells) (drop (v / mostCells) cells)) where
   pub one-name : k ≡ 0 → namesIn (lexemeOf cells k v ∷ []) ≡ n ∷ []
   unfolding lexemeOf namesIn pick
   one-name z = rw (eq-eqb k 0 z, e) refl
@@ -139,7 +139,7 @@ declare-end {v = v} {filled = filled} f n i h s =
 
 -- ---- with room for all
 
-pub declared-all : (ms ns : List (List ℕ)) → length ms + length ns ≤ tableRows → lettersIn ms + lettersIn ns ≤ mostBytes
+pub declared-all : (ms ns : List (List ℕ)) → length ms + length ns ≤ nameRows → lettersIn ms + lettersIn ns ≤ mostBytes
     → declaredOf ms ns ≡ pick (canDeclare ms ns) (names (ms ++ ns)) (refusal 8)
 unfolding declaredOf canDeclare pick lettersIn
 declared-all ms [] h g = ap names (sym (append-nil ms))
@@ -149,7 +149,7 @@ declared-all ms (n ∷ ns) h g =
     let a = length-append ms (n ∷ []) in
     let b = letters-append ms (n ∷ []) in
     let rest = declared-all (ms ++ n ∷ []) ns (omega (arith, a, h)) (omega (arith, b, g)) in
-    rw (t, lt-ltb (length ms) tableRows (omega (arith, h)), le-leb (lettersIn ms + length n) mostBytes (omega (arith, g)))
+    rw (t, lt-ltb (length ms) nameRows (omega (arith, h)), le-leb (lettersIn ms + length n) mostBytes (omega (arith, g)))
     (rest ∙ ap (λ l. pick (canDeclare (ms ++ n ∷ []) ns) (names l) (refusal 8)) (append-assoc ms (n ∷ []) ns)))
     (λ t. rw t refl)
 
@@ -163,7 +163,7 @@ namesOr d (names ms) = ms
 namesOr d (refusal n) = d
 namesOr d unfit = d
 
-module _ (ms ns : List (List ℕ)) (rows : length ms + length ns ≤ tableRows) (room : lettersIn ms + lettersIn ns ≤ mostBytes) where
+module _ (ms ns : List (List ℕ)) (rows : length ms + length ns ≤ nameRows) (room : lettersIn ms + lettersIn ns ≤ mostBytes) where
   told-all : {o : Names} → declaredOf ms ns ≡ o → pick (canDeclare ms ns) (names (ms ++ ns)) (refusal 8) ≡ o
   told-all e = sym (declared-all ms ns rows room) ∙ e
 

@@ -11,6 +11,7 @@ use Rattle.base.specs.Choice.{pick}
 use Rattle.base.specs.Places.{each}
 use Rattle.base.specs.Text.{bytes}
 use Rattle.base.proofs.Places.{each-append, each-same, each-map}
+use Rattle.source.specs.Limits.{mostCells}
 use Rattle.source.specs.declared.Token.{Token}
 use Rattle.source.specs.Tokens.{Lexeme}
 use Rattle.source.specs.Program.{sameName, wordFrom, wordOf, lookedUp}
@@ -49,7 +50,7 @@ unfolding lexemeOf pick
 seen-token ms cells k v n = rw (ne-eqb k 0 n) refl
 
 pub seen-name : (ms : List (List ℕ)) (cells : List ℕ) (k v : ℕ) → k ≡ 0
-    → tokenOf k (wordOf ms (take (v % 256) (drop (v / 256) cells))) ≡ lookedUp ms (lexemeOf cells k v)
+    → tokenOf k (wordOf ms (take (v % mostCells) (drop (v / mostCells) cells))) ≡ lookedUp ms (lexemeOf cells k v)
 unfolding lexemeOf pick tokenOf tokenShapes
 seen-name ms cells k v e = rw (eq-eqb k 0 e, e) refl
 

@@ -5,6 +5,7 @@ use name_index::Side;
 use name_index::add;
 use name_index::compare;
 use name_index::find;
+use source::MOST_CELLS;
 ghost use mathlib.Core.Path.{_≡_};
 ghost use Prim.Native.Nat.{min};
 ghost use mathlib.Core.List.{[], _∷_};
@@ -17,7 +18,7 @@ ghost use Rattle.names.specs.Internal.{FindsAny, Sees};
 
 // How many names there are now, and how many letters they have; that one of them cannot be declared; or that there is no room for it.
 pub enum Declared {
-    Names(u8, u32),
+    Names(u32, u32),
     Refused,
     Unfit,
 }
@@ -34,7 +35,7 @@ fn is_send(name: &[u8]) -> bool
 }
 
 // The word of any name: 1 for SEND, 0 where it is unknown.
-fn word_of(letters: &[u8], index: &[u32], v: u8, name: &[u8]) -> u32
+fn word_of(letters: &[u8], index: &[u32], v: u32, name: &[u8]) -> u32
     ensures { λ r. ⌜ FindsAny (now (name .entry)) v (now (letters .entry)) (now (index .entry)) r ⌝ }
 {
     if is_send(name) {
@@ -44,14 +45,18 @@ fn word_of(letters: &[u8], index: &[u32], v: u8, name: &[u8]) -> u32
     found.word
 }
 
-// What a token carries once its name is looked up. A name carries its first cell's place, times 256, and its length.
-fn seen(cells: &[u8], kind: u8, value: u32, letters: &[u8], index: &[u32], v: u8) -> u32
+// What a token carries once its name is looked up. A name carries its first cell's place, times MOST_CELLS, and its length.
+fn seen(cells: &[u8], kind: u8, value: u32, letters: &[u8], index: &[u32], v: u32) -> u32
     ensures { λ r. ⌜ Sees (lexemeOf (now (cells .entry)) kind value) kind v (now (letters .entry)) (now (index .entry)) r ⌝ }
 {
     if kind != 0 {
         return value;
     }
-    let name = part(cells, value as usize / 256, value as usize % 256);
+    let name = part(
+        cells,
+        value as usize / MOST_CELLS,
+        value as usize % MOST_CELLS,
+    );
     word_of(letters, index, v, name)
 }
 
@@ -64,7 +69,7 @@ pub fn look_up(
     n: usize,
     letters: &[u8],
     index: &[u32],
-    v: u8,
+    v: u32,
     words: &mut [u32],
 )
     ensures seen { λ _. ⌜ LooksUp (min n (length (now (words .entry)))) (now (cells .entry)) (now (kinds .entry)) (now (values .entry)) v (now (letters .entry)) (now (index .entry)) (now (words .exit)) ⌝ }
@@ -89,7 +94,7 @@ fn declare_one(
     value: u32,
     letters: &mut [u8],
     index: &mut [u32],
-    v: u8,
+    v: u32,
     filled: u32,
 ) -> Declared
     ensures { λ r. ⌜ Declares (namesIn (lexemeOf (now (cells .entry)) kind value ∷ [])) v filled (now (letters .entry)) (now (index .entry)) r (now (letters .exit)) (now (index .exit)) ⌝ }
@@ -97,7 +102,11 @@ fn declare_one(
     if kind != 0 {
         return Declared::Names(v, filled);
     }
-    let name = part(cells, value as usize / 256, value as usize % 256);
+    let name = part(
+        cells,
+        value as usize / MOST_CELLS,
+        value as usize % MOST_CELLS,
+    );
     if is_send(name) {
         return Declared::Refused;
     }
@@ -120,7 +129,7 @@ pub fn declare(
     n: usize,
     letters: &mut [u8],
     index: &mut [u32],
-    v: u8,
+    v: u32,
     filled: u32,
 ) -> Declared
     ensures { λ r. ⌜ Declares (namesIn (lexemesFrom 0 n (now (cells .entry)) (now (kinds .entry)) (now (values .entry)))) v filled (now (letters .entry)) (now (index .entry)) r (now (letters .exit)) (now (index .exit)) ⌝ }

@@ -16,6 +16,7 @@ use Rattle.base.proofs.Cases.{by-test}
 use Rattle.base.proofs.Lists.{sets-more}
 use Rattle.order.specs.declared.Order.{Order}
 use Rattle.order.specs.declared.Order.the-variants.{Word, Number, Store, Neg, Not, Jump, Skip, Branch, Send, Stop}
+use Rattle.order.specs.Limits.{mostVariables, mostTemporaries, mostOrders}
 use Rattle.order.specs.Memory.{orderWord}
 use Rattle.order.specs.Object.{withinLimits, recordAt, Lines, linesAt, Reading, refused}
 use Rattle.order.specs.Object.{operandRefusal, isStop, firstOperand, firstStop}
@@ -32,13 +33,32 @@ unfolding pick
 only-no true u e = let z : _≡_ {A = ℕ} 0 1 = ap (λ b. pick b 1 0) e in absurd (omega arith)
 only-no false u e = (refl, e)
 
-pub bounded : (v t n : ℕ) → withinLimits v t n ≡ true → (v ≤ 64) × (t ≤ 32) × (0 < n) × (n ≤ 1024)
+pub bounded : (v t n : ℕ) → withinLimits v t n ≡ true → (v ≤ mostVariables) × (t ≤ mostTemporaries) × (0 < n) × (n ≤ mostOrders)
 unfolding withinLimits
 bounded v t n e =
     let a = only-no _ _ e in
     let b = only-no _ _ (a .1) in
     let c = only-no _ _ (b .1) in
-    (ltb-false 64 v (a .0), ltb-false 32 t (b .0), ltb-true 0 n (c .1), ltb-false 1024 n (c .0))
+    (ltb-false mostVariables v (a .0), ltb-false mostTemporaries t (b .0), ltb-true 0 n (c .1), ltb-false mostOrders n (c .0))
+
+module _ (v t n : ℕ) where
+  pub over-variables : mostVariables < v → false ≡ withinLimits v t n
+  unfolding withinLimits pick
+  over-variables h = rw (lt-ltb mostVariables v h) refl
+
+  module _ (few-variables : v ≤ mostVariables) where
+    pub over-temporaries : mostTemporaries < t → false ≡ withinLimits v t n
+    unfolding withinLimits pick
+    over-temporaries h = rw (le-ltb mostVariables v few-variables, lt-ltb mostTemporaries t h) refl
+
+    module _ (few-temporaries : t ≤ mostTemporaries) where
+      pub over-orders : mostOrders < n → false ≡ withinLimits v t n
+      unfolding withinLimits pick
+      over-orders h = rw (le-ltb mostVariables v few-variables, le-ltb mostTemporaries t few-temporaries, lt-ltb mostOrders n h) refl
+
+      pub some-orders : n ≤ mostOrders → ltb 0 n ≡ withinLimits v t n
+      unfolding withinLimits pick
+      some-orders h = rw (le-ltb mostVariables v few-variables, le-ltb mostTemporaries t few-temporaries, le-ltb mostOrders n h) refl
 
 -- ---- one order more
 

@@ -7,6 +7,7 @@ use native.Mathlib.Nat.{zero-add}
 use lib.ListN.{length, getD, take, length-map, List·getD-map}
 use lib.Seq.{sets}
 use Rattle.base.proofs.Lists.{take-sets}
+use Rattle.text.specs.Pieces.{greatestNumber}
 use Rattle.order.specs.declared.Order.{Order}
 use Rattle.order.specs.declared.Order.the-variants.{Stop}
 use Rattle.order.specs.Order.{operand}
@@ -25,7 +26,7 @@ orders-in _ none = refl
 orders-in _ (more {o} {os} h hs) = ap₂ _∷_ (order-in o h) (orders-in os hs)
 
 -- those of a good object are
-narrow : (os : List Order) → ((k : ℕ) → k < length os → operand (getD os k Stop) ≤ 2147483647) → Narrow os
+narrow : (os : List Order) → ((k : ℕ) → k < length os → operand (getD os k Stop) ≤ greatestNumber) → Narrow os
 narrow [] h = none
 narrow (o ∷ os) h = more {o = o} (omega (arith, h 0 (omega arith))) (narrow os (λ k l. h (suc k) (omega arith)))
 

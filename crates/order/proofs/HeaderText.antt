@@ -14,31 +14,32 @@ use Rattle.base.proofs.Fronts.{let-through, both-found}
 use Rattle.text.specs.Pieces.{decimal, fixed, numeral}
 use Rattle.text.proofs.Fronts.{fixed-front, front-fixed}
 use Rattle.text.proofs.Decimal.{numeral-decimal, decimal-numeral}
+use Rattle.order.specs.Limits.{mostVariables, mostTemporaries, mostOrders}
 use Rattle.order.specs.Object.{Header, headerText, withinLimits, headerAt}
 
--- 64 variables, 32 temporaries, 1 to 1,024 orders
+-- what `withinLimits` tests
 pub record Within (v t n : ℕ) : Type 0 where
-  pub variables : v ≤ 64
-  pub temporaries : t ≤ 32
+  pub variables : v ≤ mostVariables
+  pub temporaries : t ≤ mostTemporaries
   pub some-orders : 1 ≤ n
-  pub few-orders : n ≤ 1024
+  pub few-orders : n ≤ mostOrders
 
 within-limits : (v t n : ℕ) → Within v t n → withinLimits v t n ≡ true
 unfolding withinLimits pick
 within-limits v t n w =
-    rw (le-ltb 64 v (w .variables), le-ltb 32 t (w .temporaries), le-ltb 1024 n (w .few-orders)) (lt-ltb 0 n (w .some-orders))
+    rw (le-ltb mostVariables v (w .variables), le-ltb mostTemporaries t (w .temporaries), le-ltb mostOrders n (w .few-orders)) (lt-ltb 0 n (w .some-orders))
 
 limits-within : (v t n : ℕ) → withinLimits v t n ≡ true → Within v t n
 unfolding withinLimits
 limits-within v t n e =
-    let few-variables = chosen-second (ltb 64 v) false _ true false≢true e in
-    let few-temporaries = chosen-second (ltb 32 t) false _ true false≢true (few-variables .1) in
-    let few-orders = chosen-second (ltb 1024 n) false _ true false≢true (few-temporaries .1) in
+    let few-variables = chosen-second (ltb mostVariables v) false _ true false≢true e in
+    let few-temporaries = chosen-second (ltb mostTemporaries t) false _ true false≢true (few-variables .1) in
+    let few-orders = chosen-second (ltb mostOrders n) false _ true false≢true (few-temporaries .1) in
     record {
-      variables = ltb-false 64 v (few-variables .0);
-      temporaries = ltb-false 32 t (few-temporaries .0);
+      variables = ltb-false mostVariables v (few-variables .0);
+      temporaries = ltb-false mostTemporaries t (few-temporaries .0);
       some-orders = ltb-true 0 n (few-orders .1);
-      few-orders = ltb-false 1024 n (few-orders .0);
+      few-orders = ltb-false mostOrders n (few-orders .0);
     }
 
 -- the text field by field

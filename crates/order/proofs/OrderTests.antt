@@ -9,8 +9,10 @@ use lib.Dec.{ltb}
 use lib.ListN.{length, getD}
 use Rattle.base.specs.Choice.{pick}
 use Rattle.base.proofs.Cases.{by-test}
+use Rattle.text.specs.Pieces.{greatestNumber}
 use Rattle.order.specs.declared.Order.{Order}
 use Rattle.order.specs.declared.Order.the-variants.{Word, Number, Store, Neg, Not, Jump, Skip, Branch, Send, Stop}
+use Rattle.order.specs.Limits.{mostVariables, mostTemporaries, mostOrders}
 use Rattle.order.specs.Order.{operand}
 use Rattle.order.specs.Object.{operandRefusal, isStop}
 use Rattle.order.specs.Good.{WordFits, OperandFits, Good}
@@ -56,7 +58,7 @@ module _ (v t n : ℕ) where
   fits-passes Send h = refl
   fits-passes Stop h = refl
 
-  pub passed-fits : (o : Order) → operand o ≤ 2147483647 → operandRefusal (v + t + 2) n o ≡ 0 → OperandFits v t n o
+  pub passed-fits : (o : Order) → operand o ≤ greatestNumber → operandRefusal (v + t + 2) n o ≡ 0 → OperandFits v t n o
   passed-fits (Word f w) small e = word-fits v t w e
   passed-fits (Number f k) small e = small
   passed-fits (Store w) small e = word-fits v t w e
@@ -69,7 +71,7 @@ module _ (v t n : ℕ) where
   passed-fits Stop small e = tt
 
   -- what fits is a number of a record, where the limits are kept
-  small-operand : v ≤ 64 → t ≤ 32 → n ≤ 1024 → (o : Order) → OperandFits v t n o → operand o ≤ 2147483647
+  small-operand : v ≤ mostVariables → t ≤ mostTemporaries → n ≤ mostOrders → (o : Order) → OperandFits v t n o → operand o ≤ greatestNumber
   small-operand a b c (Word f w) h = omega (arith, a, b, h .1)
   small-operand a b c (Number f k) h = h
   small-operand a b c (Store w) h = omega (arith, a, b, h .1)
@@ -81,7 +83,7 @@ module _ (v t n : ℕ) where
   small-operand a b c Send h = omega arith
   small-operand a b c Stop h = omega arith
 
-pub numbers-small : (v t : ℕ) (os : List Order) → Good v t os → (k : ℕ) → k < length os → operand (getD os k Stop) ≤ 2147483647
+pub numbers-small : (v t : ℕ) (os : List Order) → Good v t os → (k : ℕ) → k < length os → operand (getD os k Stop) ≤ greatestNumber
 numbers-small v t os g k h =
     small-operand v t (length os) (g .variables) (g .temporaries) (g .few-orders) (getD os k Stop) (g .operands k h)
 

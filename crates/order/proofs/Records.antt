@@ -11,7 +11,7 @@ use Rattle.base.specs.Text.{bytes}
 use Rattle.base.specs.Front.{found, missing, onFront}
 use Rattle.base.proofs.Lists.{map-at}
 use Rattle.base.proofs.Fronts.{never, let-through, both-found, by-front}
-use Rattle.text.specs.Pieces.{Front, decimal, fixed, numeral}
+use Rattle.text.specs.Pieces.{Front, decimal, fixed, numeral, greatestNumber}
 use Rattle.text.proofs.Fronts.{front-fixed}
 use Rattle.text.proofs.Decimal.{numeral-decimal, decimal-numeral}
 use Rattle.order.specs.declared.Order.{Order}
@@ -60,7 +60,7 @@ module _ (ss : List (ℕ → Order)) (told : (l : List ℕ) → map (λ s. recor
       map-at (λ s. recordAmong ss (heading (s 0) ++ l)) (λ s. orderAt s l) shapes (λ v. Stop) (told l)
       (ap (λ m. getD m 0 missing) (told l)) k
 
-  among-again : (o : Order) (rest : List ℕ) → operand o ≤ 2147483647 → recordAmong ss (recordText o ++ rest) ≡ found o rest
+  among-again : (o : Order) (rest : List ℕ) → operand o ≤ greatestNumber → recordAmong ss (recordText o ++ rest) ≡ found o rest
   unfolding orderAt onFront pick
   among-again o rest small =
       ap (recordAmong ss) (parts o rest)
@@ -69,7 +69,7 @@ module _ (ss : List (ℕ → Order)) (told : (l : List ℕ) → map (λ s. recor
       ∙ rw (numeral-decimal 10 (operand o) rest small (omega arith), order-again o, eq-eqb (operand o) (operand o) refl)
 
 among : (ss : List (ℕ → Order)) → ((v : ℕ) → map (λ s. heading (s v)) ss ≡ map (λ s. heading (s 0)) ss) → (o : Order) (l rest : List ℕ)
-    → recordAmong ss l ≡ found o rest → (l ≡ recordText o ++ rest) × (operand o ≤ 2147483647)
+    → recordAmong ss l ≡ found o rest → (l ≡ recordText o ++ rest) × (operand o ≤ greatestNumber)
 unfolding recordAmong onFront
 among [] same o l rest e = never e
 among (s ∷ ss) same o l rest e =
@@ -86,11 +86,11 @@ among (s ∷ ss) same o l rest e =
 
 -- ---- the record of an order
 
-pub record-again : (o : Order) (rest : List ℕ) → operand o ≤ 2147483647 → recordAt (recordText o ++ rest) ≡ found o rest
+pub record-again : (o : Order) (rest : List ℕ) → operand o ≤ greatestNumber → recordAt (recordText o ++ rest) ≡ found o rest
 unfolding recordAt
 record-again = among-again table headings-told
 
-pub again-record : (o : Order) (l rest : List ℕ) → recordAt l ≡ found o rest → (l ≡ recordText o ++ rest) × (operand o ≤ 2147483647)
+pub again-record : (o : Order) (l rest : List ℕ) → recordAt l ≡ found o rest → (l ≡ recordText o ++ rest) × (operand o ≤ greatestNumber)
 unfolding recordAt
 again-record = among table same-in-table
 

@@ -1,4 +1,4 @@
--- The numbers and the places of refusals: 21 to 25, at a place of at most 1,024.
+-- The numbers and the places of refusals: 21 to 25, at a place of at most as many as there can be orders.
 use Prim.Native.Nat.{ℕ, suc, _+_, _-_, _≤_}
 use mathlib.Core.Path.{_≡_, subst}
 use mathlib.Core.List.{List, [], _∷_}
@@ -12,6 +12,7 @@ use Rattle.base.proofs.Cases.{either-part}
 use Rattle.base.proofs.Fronts.{by-front}
 use Rattle.order.specs.declared.Order.{Order}
 use Rattle.order.specs.declared.Order.the-variants.{Word, Number, Store, Neg, Not, Jump, Skip, Branch, Send, Stop}
+use Rattle.order.specs.Limits.{mostOrders}
 use Rattle.order.specs.Object.{Header, Lines, Reading, object, refused, headerAt, linesAt}
 use Rattle.order.specs.Object.{operandRefusal, firstStop, firstOperand, stopLast, exactly, reading}
 use Rattle.order.proofs.HeaderText.{Within, again-header}
@@ -20,7 +21,7 @@ use Rattle.order.proofs.RecordLines.{Read, again-lines}
 -- what a reading refuses with, if it does
 abbrev Bounded : Reading → Type 0
 Bounded (object v t os) = Unit {0}
-Bounded (refused n p) = (21 ≤ n) × (n ≤ 25) × (p ≤ 1024)
+Bounded (refused n p) = (21 ≤ n) × (n ≤ 25) × (p ≤ mostOrders)
 
 -- ---- 23 and 24
 
@@ -48,7 +49,7 @@ operand-known words n (Branch r a) = address-known n a
 operand-known words n Send = omega arith
 operand-known words n Stop = omega arith
 
-operands-bounded : (words n k : ℕ) (os : List Order) (after : Reading) → k + length os ≤ 1024 → Bounded after
+operands-bounded : (words n k : ℕ) (os : List Order) (after : Reading) → k + length os ≤ mostOrders → Bounded after
     → Bounded (firstOperand words n k os after)
 unfolding firstOperand
 operands-bounded words n k [] after few b = b
@@ -59,7 +60,7 @@ operands-bounded words n k (o ∷ os) after few b =
 
 -- ---- all of them
 
-stops-bounded : (v t : ℕ) (os : List Order) → length os ≤ 1024 → Bounded (stopLast v t os)
+stops-bounded : (v t : ℕ) (os : List Order) → length os ≤ mostOrders → Bounded (stopLast v t os)
 unfolding stopLast
 stops-bounded v t os few =
     either-part Bounded (eqb (firstStop 0 os) (length os - 1)) _ _ (λ _. tt) (λ _. omega arith)
@@ -80,5 +81,5 @@ reading-bounded l =
     (λ h l₁ e. rw e (lines-bounded h (linesAt (h .orders) l₁) l₁ (again-header h l l₁ e .1) (again-lines (h .orders) l₁)))
     (λ e. rw e (omega arith))
 
-pub refused-bounded : (l : List ℕ) (n p : ℕ) → reading l ≡ refused n p → (21 ≤ n) × (n ≤ 25) × (p ≤ 1024)
+pub refused-bounded : (l : List ℕ) (n p : ℕ) → reading l ≡ refused n p → (21 ≤ n) × (n ≤ 25) × (p ≤ mostOrders)
 refused-bounded l n p e = subst Bounded e (reading-bounded l)

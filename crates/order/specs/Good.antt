@@ -4,6 +4,7 @@ use Prim.Native.Nat.{ℕ, _+_, _-_, _<_, _≤_}
 use mathlib.Core.Path.{_≡_}
 use mathlib.Core.List.{List}
 use lib.ListN.{length, getD}
+use Rattle.text.specs.Pieces.{greatestNumber}
 use Rattle.order.specs.declared.Order.{Order}
 use Rattle.order.specs.declared.Order.the-variants.{Word, Number, Store, Neg, Not, Jump, Skip, Branch, Send, Stop}
 use Rattle.order.specs.Limits.{mostVariables, mostTemporaries, mostOrders}
@@ -16,7 +17,7 @@ WordFits v t w = (2 ≤ w) × (w < v + t + 2)
 -- refused
 abbrev pub OperandFits : ℕ → ℕ → ℕ → Order → Type 0
 OperandFits v t n (Word f w) = WordFits v t w
-OperandFits v t n (Number f k) = k ≤ 2147483647
+OperandFits v t n (Number f k) = k ≤ greatestNumber
 OperandFits v t n (Store w) = WordFits v t w
 OperandFits v t n Neg = Unit {0}
 OperandFits v t n Not = Unit {0}

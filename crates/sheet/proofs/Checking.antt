@@ -9,6 +9,7 @@ use borrow.Author.Tests.{lt-ltb, le-ltb, ltb-true, ltb-false, le-leb, leb-true, 
 use lib.Dec.{ltb, leb, eqb}
 use Rattle.base.specs.Choice.{pick}
 use Rattle.base.proofs.Cases.{both-yes, chosen-second}
+use Rattle.text.specs.Pieces.{greatestNumber}
 use Rattle.order.specs.declared.Order.{Order}
 use Rattle.order.specs.Order.{operand}
 use Rattle.order.specs.Memory.{number, orderOf}
@@ -41,7 +42,7 @@ variable-told v w e =
 expressed-yes : (v : ℕ) (e : Expression) → Expressed v e → isExpressed v e ≡ true
 unfolding Expressed isExpressed
 expressed-yes v (word w) x = variable-yes v w x
-expressed-yes v (constant n) x = le-leb n 2147483647 x
+expressed-yes v (constant n) x = le-leb n greatestNumber x
 expressed-yes v (negated e) x = expressed-yes v e x
 expressed-yes v (inverted e) x = expressed-yes v e x
 expressed-yes v (binary o l r) x = also-yes _ _ (expressed-yes v l (x .0)) (expressed-yes v r (x .1))
@@ -49,7 +50,7 @@ expressed-yes v (binary o l r) x = also-yes _ _ (expressed-yes v l (x .0)) (expr
 expressed-told : (v : ℕ) (e : Expression) → isExpressed v e ≡ true → Expressed v e
 unfolding Expressed isExpressed
 expressed-told v (word w) x = variable-told v w x
-expressed-told v (constant n) x = leb-true n 2147483647 x
+expressed-told v (constant n) x = leb-true n greatestNumber x
 expressed-told v (negated e) x = expressed-told v e x
 expressed-told v (inverted e) x = expressed-told v e x
 expressed-told v (binary o l r) x =

@@ -3,6 +3,7 @@ use Prim.Native.Nat.{ℕ, suc, _+_, _≤_, _<_}
 use mathlib.Core.List.{List, _∷_, _++_}
 use native.Mathlib.Omega.{arith}
 use lib.ListN.{length, length-append}
+use Rattle.text.specs.Pieces.{greatestNumber}
 use Rattle.order.specs.declared.Operation.{Operation}
 use Rattle.order.specs.declared.Operation.the-variants.{Cmp}
 use Rattle.order.specs.declared.Order.{Order}
@@ -16,7 +17,7 @@ use Rattle.sheet.proofs.Each.{Each, each-append, each-map}
 -- an order of an expression, whose words are variables and the first t temporaries
 abbrev pub OfExpression : ℕ → ℕ → Order → Type 0
 OfExpression v t (Word f w) = (2 ≤ w) × (w < v + 2 + t)
-OfExpression v t (Number f n) = n ≤ 2147483647
+OfExpression v t (Number f n) = n ≤ greatestNumber
 OfExpression v t (Store w) = (v + 2 ≤ w) × (w < v + 2 + t)
 OfExpression v t Neg = Unit {0}
 OfExpression v t Not = Unit {0}

@@ -5,6 +5,7 @@ use mathlib.Core.Bool.{Bool, true, false}
 use mathlib.Core.List.{List, [], _∷_}
 use lib.Dec.{ltb, leb, eqb}
 use Rattle.base.specs.Choice.{pick}
+use Rattle.text.specs.Pieces.{greatestNumber}
 use Rattle.order.specs.declared.Order.{Order}
 use Rattle.order.specs.Order.{operand as orderOperand}
 use Rattle.order.specs.Memory.{number}
@@ -25,7 +26,7 @@ also a b = pick a b false
 
 unfoldable pub isExpressed : ℕ → Expression → Bool
 isExpressed v (word w) = isVariable v w
-isExpressed v (constant n) = leb n 2147483647
+isExpressed v (constant n) = leb n greatestNumber
 isExpressed v (negated e) = isExpressed v e
 isExpressed v (inverted e) = isExpressed v e
 isExpressed v (binary o l r) = also (isExpressed v l) (isExpressed v r)

@@ -1,5 +1,5 @@
--- Which sheets there are, document 01: "A sheet is any such list with V up to 64 whose translation has T up to 32 and N up to
--- 1,024", and 02, L1: "nested up to 16 deep", and no part is empty.
+-- Which sheets there are, document 01: "A sheet is any such list with V up to .. whose translation has T up to .. and N up to ..",
+-- the limits of an object, and 02, L1: "nested up to 16 deep", and no part is empty.
 use Prim.Native.Nat.{ℕ, suc, _≤_, max}
 use lib.ListN.{length}
 use Rattle.order.specs.Limits.{mostVariables, mostTemporaries, mostOrders}

@@ -10,6 +10,7 @@ use borrow.Author.Tests.{lt-ltb, le-ltb, le-leb, eq-eqb, ne-eqb}
 use lib.Dec.{eqb, ltb, leb}
 use lib.ListN.{length}
 use Rattle.base.specs.Choice.{pick}
+use Rattle.text.specs.Pieces.{greatestNumber}
 use Rattle.sheet.specs.declared.Field.{Field}
 use Rattle.sheet.specs.declared.Field.the-variants.{Else, Start, Finish, If}
 use Rattle.sheet.specs.Sheet.{Expression, word, constant, negated, inverted, binary as joined, Simple, set, send, goto}
@@ -68,7 +69,7 @@ module _ (v n : ℕ) where
       → accepts v n (stateAt (suc k) next gs b) (expressionFields e ++ l) ≡ accepts v n (stateAt k next gs b) l
   unfolding accepts stepOf pick expressionFields Expressed
   values next gs b (word w) k l h = rw (not-zero k, variable-yes v w h, one-less k) refl
-  values next gs b (constant m) k l h = rw (not-zero k, le-leb m 2147483647 h, one-less k) refl
+  values next gs b (constant m) k l h = rw (not-zero k, le-leb m greatestNumber h, one-less k) refl
   values next gs b (negated e) k l h = rw (not-zero k) (values next gs b e k l h)
   values next gs b (inverted e) k l h = rw (not-zero k) (values next gs b e k l h)
   values next gs b (joined o x y) k l h =

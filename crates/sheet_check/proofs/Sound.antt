@@ -10,6 +10,7 @@ use lib.Dec.{eqb, ltb, leb}
 use lib.ListN.{length}
 use Rattle.base.specs.Choice.{pick}
 use Rattle.word.specs.declared.Relation.{Relation as Compared}
+use Rattle.text.specs.Pieces.{greatestNumber}
 use Rattle.sheet.specs.declared.Operator.{Operator}
 use Rattle.sheet.specs.declared.Field.{Field}
 use Rattle.sheet.specs.declared.Field.the-variants.{Else, Start, Finish, If, Send, Neg, Not, Binary, Compare, Word, Constant, Set, Goto}
@@ -300,8 +301,8 @@ module _ (v n : ℕ) where
         let it = allowed (isVariable v w) (stateAt (suc k - 1) next gs b) goes e in
         leaf (word w) (Word w) refl (variable-told v w (it .yes-so)) k next gs b l (ahead k next gs b few (rw (one-less k) at (it .on)))
     value-back k next (Constant m) e =
-        let it = allowed (leb m 2147483647) (stateAt (suc k - 1) next gs b) goes e in
-        leaf (constant m) (Constant m) refl (leb-true m 2147483647 (it .yes-so)) k next gs b l (ahead k next gs b few (rw (one-less k) at (it .on)))
+        let it = allowed (leb m greatestNumber) (stateAt (suc k - 1) next gs b) goes e in
+        leaf (constant m) (Constant m) refl (leb-true m greatestNumber (it .yes-so)) k next gs b l (ahead k next gs b few (rw (one-less k) at (it .on)))
     value-back k next (Set w) e = never e
     value-back k next (Goto m) e = never e
 

@@ -6,10 +6,11 @@ use mathlib.Core.List.{List, [], _∷_}
 use native.Mathlib.Omega.{arith}
 use native.Mathlib.Nat.{add-zero, add-suc}
 use native.Mathlib.Numerals.{add-one}
-use borrow.Author.Tests.{ltb-true, eqb-false}
+use borrow.Author.Tests.{ltb-true, eqb-false, leb-true}
 use lib.Dec.{eqb, ltb, leb}
 use Rattle.base.specs.Choice.{pick}
 use Rattle.base.proofs.Cases.{by-less}
+use Rattle.text.specs.Pieces.{greatestNumber}
 use Rattle.sheet.specs.declared.Field.{Field}
 use Rattle.sheet.specs.declared.Field.the-variants.{Else, Start, Finish, If, Send, Neg, Not, Binary, Compare, Word, Constant, Set, Goto}
 use Rattle.sheet.specs.Within.{mostLevels}
@@ -37,12 +38,12 @@ unfolding power
 power-rises j zero = rw (add-zero j) (omega arith)
 power-rises j (suc k) = rw (add-suc j k) (omega (arith, power-rises j k))
 
-power-few : (k : ℕ) → k ≤ mostLevels → power k ≤ 65536
+power-few : (k : ℕ) → k ≤ mostLevels → power k ≤ 2147483648
 unfolding power
 power-few k h =
-    let j : k + (mostLevels - k) ≡ 16 = omega arith in
-    let most : power (k + (mostLevels - k)) ≡ 65536 = ap power j in
-    omega (arith, power-rises k (mostLevels - k), most)
+    let most = leb-true (power mostLevels) 2147483648 refl in
+    let all : k + (mostLevels - k) ≡ mostLevels = omega arith in
+    omega (arith, power-rises k (mostLevels - k), ap power all, most)
 
 -- ---- numbers that stay small
 
@@ -51,7 +52,7 @@ pub record Small (i : ℕ) (s : State) : Type 0 where
   pub groups : s .groups ≤ mostLevels
   pub seconds : s .seconds + 1 ≤ power (s .groups)
 
-pub seconds-few : (i : ℕ) (s : State) → Small i s → s .seconds < 65536
+pub seconds-few : (i : ℕ) (s : State) → Small i s → s .seconds < 2147483648
 seconds-few i s p = omega (arith, p .seconds, power-few (s .groups) (p .groups))
 
 abbrev StepSmall : ℕ → Step → Type 0
@@ -121,7 +122,7 @@ module _ (i : ℕ) (s : State) (p : Small i s) where
   value-small v (Binary o) h = same (s .values + 1) (omega (arith, p .values))
   value-small v (Compare r) h = tt
   value-small v (Word w) h = small-if (i + 1) (isVariable v w) (To (withValues s (s .values - 1))) (same (s .values - 1) (omega (arith, p .values)))
-  value-small v (Constant n) h = small-if (i + 1) (leb n 2147483647) (To (withValues s (s .values - 1))) (same (s .values - 1) (omega (arith, p .values)))
+  value-small v (Constant n) h = small-if (i + 1) (leb n greatestNumber) (To (withValues s (s .values - 1))) (same (s .values - 1) (omega (arith, p .values)))
   value-small v (Set w) h = tt
   value-small v (Goto n) h = tt
 

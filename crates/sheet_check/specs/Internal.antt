@@ -4,6 +4,7 @@ use mathlib.Core.Bool.{Bool, true, false}
 use mathlib.Core.List.{List, [], _∷_}
 use lib.Dec.{ltb, leb, eqb}
 use Rattle.base.specs.Choice.{pick}
+use Rattle.text.specs.Pieces.{greatestNumber}
 use Rattle.sheet.specs.declared.Field.{Field}
 use Rattle.sheet.specs.declared.Field.the-variants.{Else, Start, Finish, If, Send, Neg, Not, Binary, Compare, Word, Constant, Set, Goto}
 use Rattle.sheet.specs.Within.{mostLevels}
@@ -53,7 +54,7 @@ valueStep v s Not = To s
 valueStep v s (Binary o) = To (withValues s (s .values + 1))
 valueStep v s (Compare r) = Missing
 valueStep v s (Word w) = pick (isVariable v w) (To (withValues s (s .values - 1))) Missing
-valueStep v s (Constant k) = pick (leb k 2147483647) (To (withValues s (s .values - 1))) Missing
+valueStep v s (Constant k) = pick (leb k greatestNumber) (To (withValues s (s .values - 1))) Missing
 valueStep v s (Set w) = Missing
 valueStep v s (Goto k) = Missing
 

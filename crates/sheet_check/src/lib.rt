@@ -15,8 +15,8 @@ ghost use Rattle.sheet_check.specs.Internal.{begins, begun, withValues, 
 ghost use Rattle.sheet_check.specs.Internal.{instructionStep, relationStep, opened as openedOf, startStep, stepOf, atInstruction, isFinal, start, accepts};
 ghost use Rattle.sheet_check.specs.Answers.{Checks};
 
-// The greatest constant.
-const GREATEST_CONSTANT: u32 = 2147483647;
+// `greatestNumber` of text/specs/Pieces.antt.
+const GREATEST_NUMBER: u32 = text::GREATEST_NUMBER as u32;
 
 // What must come next, where no expression is left to come: an instruction or the end of a part, START, or a relation.
 pub enum Next {
@@ -166,7 +166,7 @@ fn value_step(s: State, f: Field, v: u32) -> Step
             Step::Missing
         }
         Field::Constant(n) => {
-            if n <= GREATEST_CONSTANT {
+            if n <= GREATEST_NUMBER {
                 return Step::To(with_values(s, k - 1));
             }
             Step::Missing
@@ -271,7 +271,7 @@ fn relation_step(s: State, f: Field) -> Step
     }
 }
 
-// START opens a group, at most 16 deep.
+// START opens a group, at most MOST_LEVELS deep.
 fn opened(s: State) -> Step
     requires { ⌜ s .seconds < 2147483648 ⌝ }
     ensures { λ r. ⌜ r ≡ openedOf s ⌝ }

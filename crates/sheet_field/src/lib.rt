@@ -15,7 +15,7 @@ ghost use Rattle.sheet_field.specs.Memory.{operatorNumber, relationNumbe
 ghost use Rattle.sheet_field.specs.Memory.{fieldWord, fieldIn};
 
 // `mostFields` of specs/Memory.antt.
-pub const MOST_FIELDS: usize = 2048;
+pub const MOST_FIELDS: usize = 2 * order::MOST_ORDERS as usize;
 
 // `mostLevels` of sheet's specs/Within.antt.
 pub const MOST_LEVELS: u32 = 16;

@@ -13,7 +13,7 @@ use Rattle.base.specs.Front.{found, missing, onFront}
 use Rattle.base.proofs.Cases.{by-less}
 use Rattle.word.specs.declared.Relation.{Relation}
 use Rattle.word.specs.declared.Relation.the-variants.{Equal, Unequal, Less, AtMost, Greater, AtLeast}
-use Rattle.text.specs.Pieces.{digitsOf, decimal, Front, fixed, numeral}
+use Rattle.text.specs.Pieces.{digitsOf, decimal, Front, fixed, numeral, greatestNumber}
 use Rattle.text.proofs.Decimal.{numeral-decimal}
 use Rattle.sheet.specs.declared.Operator.{Operator}
 use Rattle.sheet.specs.declared.Operator.the-variants.{Plus, Minus, Times, Over, Power, Left, Right, And, Or, Unlike}
@@ -59,7 +59,7 @@ closing l = getD (afterDigits l) 0 0
 numberAt : List ℕ → Front ℕ
 numberAt l = onFront (numeral (closing l) l) (λ n r. found n (closing l ∷ r)) missing
 
-number-read : (n : ℕ) (l : List ℕ) → Closed l → n ≤ 2147483647 → numberAt (decimal n ++ l) ≡ found n l
+number-read : (n : ℕ) (l : List ℕ) → Closed l → n ≤ greatestNumber → numberAt (decimal n ++ l) ≡ found n l
 unfolding numberAt onFront
 number-read n l (tab r) small = rw (after-number n (9 ∷ r) (tab r), numeral-decimal 9 n r small (omega arith)) refl
 number-read n l (newline r) small = rw (after-number n (10 ∷ r) (newline r), numeral-decimal 10 n r small (omega arith)) refl
@@ -137,7 +137,7 @@ by-close : (f : Field) → ((l : List ℕ) → Told f l) → (l : List ℕ) → 
 by-close f told l (tab r) = told r .0
 by-close f told l (newline r) = told r .1
 
-pub field-read : (f : Field) (l : List ℕ) → Closed l → carried f ≤ 2147483647 → fieldAt (fieldText f ++ l) ≡ found f l
+pub field-read : (f : Field) (l : List ℕ) → Closed l → carried f ≤ greatestNumber → fieldAt (fieldText f ++ l) ≡ found f l
 unfolding fieldAt amongBare bare fixed onFront pick bytes
 field-read Else l c small = by-close Else (λ r. (refl, refl)) l c
 field-read Start l c small = by-close Start (λ r. (refl, refl)) l c

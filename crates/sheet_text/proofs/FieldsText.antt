@@ -9,7 +9,7 @@ use Rattle.base.specs.Text.{bytes}
 use Rattle.base.specs.Front.{found, missing}
 use Rattle.base.proofs.Cases.{by-test}
 use Rattle.base.proofs.Fronts.{never}
-use Rattle.text.specs.Pieces.{decimal, numeral}
+use Rattle.text.specs.Pieces.{decimal, numeral, greatestNumber}
 use Rattle.text.proofs.Decimal.{numeral-decimal}
 use Rattle.sheet.specs.declared.Field.{Field}
 use Rattle.sheet.specs.Fields.{fieldText}
@@ -51,14 +51,14 @@ fields-told (f ∷ fs) (g ∷ gs) x y e =
 header-parts : (v is : ℕ) (l : List ℕ) → headerText v is ++ l ≡ bytes "SHEET\t" ++ (decimal v ++ 9 ∷ (decimal is ++ l))
 header-parts v is l = simp append-assoc
 
-header-numbers : (v is : ℕ) (l : List ℕ) → v ≤ 2147483647
+header-numbers : (v is : ℕ) (l : List ℕ) → v ≤ greatestNumber
     → numeral 9 (drop 6 (headerText v is ++ l)) ≡ found v (decimal is ++ l)
 unfolding bytes
 header-numbers v is l small =
     ap (λ t. numeral 9 (drop 6 t)) (header-parts v is l)
     ∙ numeral-decimal 9 v (decimal is ++ l) small (omega arith)
 
-pub header-told : (v w is js : ℕ) (l m : List ℕ) → v ≤ 2147483647 → w ≤ 2147483647 → Closed l → Closed m
+pub header-told : (v w is js : ℕ) (l m : List ℕ) → v ≤ greatestNumber → w ≤ greatestNumber → Closed l → Closed m
     → headerText v is ++ l ≡ headerText w js ++ m → (v ≡ w) × (l ≡ m)
 header-told v w is js l m small small-too c d e =
     let same : found v (decimal is ++ l) ≡ found w (decimal js ++ m) =

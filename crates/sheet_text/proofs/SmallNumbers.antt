@@ -4,7 +4,9 @@ use Prim.Native.Nat.{ℕ, _+_, _≤_}
 use mathlib.Core.List.{[], _∷_, _++_}
 use native.Mathlib.Omega.{arith}
 use lib.ListN.{length-append}
+use Rattle.text.specs.Pieces.{greatestNumber}
 use Rattle.order.specs.declared.Order.the-variants.{Stop}
+use Rattle.order.specs.Limits.{mostVariables, mostOrders}
 use Rattle.sheet.specs.declared.Field.{Field}
 use Rattle.sheet.specs.declared.Field.the-variants.{Else, Start, Finish}
 use Rattle.sheet.specs.Sheet.{Expression, word, constant, negated, inverted, binary, Simple, set, send, goto}
@@ -19,9 +21,9 @@ use Rattle.sheet.proofs.Sizes.{code-length, count-size}
 use Rattle.sheet_field.specs.Memory.{carried}
 
 abbrev pub Small : Field → Type 0
-Small f = carried f ≤ 2147483647
+Small f = carried f ≤ greatestNumber
 
-module _ (v n : ℕ) (few-variables : v ≤ 64) (few-instructions : n ≤ 1024) where
+module _ (v n : ℕ) (few-variables : v ≤ mostVariables) (few-instructions : n ≤ mostOrders) where
   expression-small : (e : Expression) → Expressed v e → Each Small (expressionFields e)
   unfolding expressionFields Expressed
   expression-small (word w) x = (omega arith, tt)
@@ -66,5 +68,5 @@ module _ (v n : ℕ) (few-variables : v ≤ 64) (few-instructions : n ≤ 1024) 
 pub sheet-small : (s : Sheet) → Within s → Each Small (sheetFields s)
 sheet-small (sheet v x) w =
     let orders = length-append (partCode v (firstOrder v x) 0 x) (Stop ∷ []) in
-    let few : count x ≤ 1024 = omega (arith, orders, w .few-orders, code-length v (firstOrder v x) 0 x, count-size v x) in
+    let few : count x ≤ mostOrders = omega (arith, orders, w .few-orders, code-length v (firstOrder v x) 0 x, count-size v x) in
     part-small v (count x) (w .few-variables) few x (w .formed)

@@ -25,6 +25,7 @@ use Rattle.sheet.specs.Within.{Within}
 use Rattle.sheet.specs.Fields.{simpleFields, conditionFields, partFields, operatorText, relationText, fieldText, lineRest, line, lines, sheetText}
 use Rattle.sheet.specs.Translation.{translation, sheetTemporaries, objectText}
 use Rattle.sheet.proofs.Lengths.{translation-length, part-few}
+use Rattle.skimp.specs.Promises.{mostObjectBytes, mostSheetBytes}
 
 -- ---- numbers
 
@@ -118,7 +119,7 @@ text-few : (v t : ℕ) (os : List Order) → length (text v t os) ≤ 37 + 18 * 
 unfolding text
 text-few v t os = both-few (headerText v t (length os)) (recordsText os) 37 (18 * length os) (header-few v t (length os)) (records-few os)
 
-pub object-few : (s : Sheet) → Within s → length (objectText s) ≤ 18469
+pub object-few : (s : Sheet) → Within s → length (objectText s) ≤ mostObjectBytes
 object-few s w = let all = text-few (variables s) (sheetTemporaries s) (translation s) in omega (arith, all, w .few-orders)
 
 -- ---- the sheet
@@ -211,7 +212,7 @@ lines-few (either c x y l) =
     let j = length-append (partFields y) (Finish ∷ partFields l) in
     omega (arith, question, begin, turn, finish, a, b, d, e, h, i, f, g, j, lines-few x, lines-few y, lines-few l)
 
-pub sheet-few : (s : Sheet) → Within s → length (sheetText s) ≤ 32768
+pub sheet-few : (s : Sheet) → Within s → length (sheetText s) ≤ mostSheetBytes
 unfolding bytes
 sheet-few (sheet v x) w =
     let e : length (sheetText (sheet v x)) ≡ 6 + length (decimal v) + suc (length (decimal (count x))) + suc (length (lines x)) = simp length-append in

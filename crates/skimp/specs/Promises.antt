@@ -9,6 +9,7 @@ use mathlib.Core.List.{List, [], _∷_, _++_}
 use lib.ListN.{length, take, drop, replicate}
 use lib.Seq.{sets}
 use Rattle.order.specs.declared.Order.{Order}
+use Rattle.order.specs.Limits.{mostOrders}
 use Rattle.order.specs.Object.{object, refused, text, reading}
 use Rattle.order.specs.Good.{Good}
 use Rattle.machine.specs.Machine.{machine, failed, nextEffect}
@@ -119,7 +120,7 @@ RunNumbers =
 
 -- what an accepting call of compile has found and left
 pub record Accepted (source buffer : List ℕ) (r : ℕ) (left : List ℕ) : Type 0 where
-  -- the sheet of the source, "V up to 64 whose translation has T up to 32 and N up to 1,024"
+  -- the sheet of the source, "any such list with V up to .. whose translation has T up to .. and N up to .."
   pub its-sheet : Sheet
   pub of-source : answer source ≡ accepted its-sheet
   pub within : Within its-sheet
@@ -147,12 +148,18 @@ CompileRefusesNoOther =
 abbrev pub TemporariesAreUsed : Type 0
 TemporariesAreUsed = (s : Sheet) → Within s → largestStored (variables s) (translation s) ≡ sheetTemporaries s
 
--- 18,469 bytes hold every object, and 32,768 every sheet
+-- so many bytes hold every object, and every sheet: include/skimp.h names both
+abbrev pub mostObjectBytes : ℕ
+mostObjectBytes = 37 + 18 * mostOrders
+
+abbrev pub mostSheetBytes : ℕ
+mostSheetBytes = 32 * mostOrders
+
 abbrev pub ObjectsFit : Type 0
-ObjectsFit = (s : Sheet) → Within s → length (objectText s) ≤ 18469
+ObjectsFit = (s : Sheet) → Within s → length (objectText s) ≤ mostObjectBytes
 
 abbrev pub SheetsFit : Type 0
-SheetsFit = (s : Sheet) → Within s → length (sheetText s) ≤ 32768
+SheetsFit = (s : Sheet) → Within s → length (sheetText s) ≤ mostSheetBytes
 
 -- ======== Its object run does what the program means, step counts, endings and faults included.
 

@@ -6,6 +6,11 @@ ghost use Rattle.call.specs.Compile.{compileCall};
 ghost use Rattle.call.specs.ReadingBack.{readBackCall};
 ghost use Rattle.call.specs.Run.{call, runCall};
 
+// The longest texts: `mostObjectBytes` and `mostSheetBytes` of specs/Promises.antt.
+pub const MOST_OBJECT_BYTES: usize = 37 + 18 * order::MOST_ORDERS as usize;
+
+pub const MOST_SHEET_BYTES: usize = 32 * order::MOST_ORDERS as usize;
+
 #[no_mangle]
 pub extern "C" fn skimp_compile(source: &[u8], object: &mut [u8]) -> u64
     ensures { λ r. ⌜ wrote r (now (object .exit)) ≡ compileCall (now (source .entry)) (now (object .entry)) ⌝ }

@@ -11,7 +11,7 @@ ghost use Rattle.skimp_state.specs.State.{numberAt, numberBytes, registe
 
 // The number in four bytes, highest first.
 fn load_word(s: &[u8], i: usize) -> u32
-    requires { ⌜ i ≤ 1000 ⌝ }
+    requires { ⌜ i ≤ 20 + 4 * mostWords ⌝ }
     ensures { λ r. ⌜ r ≡ numberAt 4 i (now (s .entry)) ⌝ }
 {
     let a = byte_at(s, i) as u32;
@@ -47,7 +47,7 @@ pub fn load_words(s: &[u8], words: &mut [u32])
 
 // A number in four bytes, highest first.
 fn store_word(s: &mut [u8], i: usize, w: u32)
-    requires { ⌜ i ≤ 1000 ⌝ }
+    requires { ⌜ i ≤ 20 + 4 * mostWords ⌝ }
     ensures { λ _. ⌜ now (s .exit) ≡ sets (now (s .entry)) i (numberBytes 4 w) ⌝ }
 {
     put_byte(s, i, (w / 16777216 % 256) as u8);

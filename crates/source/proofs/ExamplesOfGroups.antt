@@ -1,6 +1,6 @@
 -- Sources with groups and what 02, L1, answers to each, as one table under one statement, read by the definitions. Comments in
 -- quotes are its words.
-use Prim.Native.Nat.{ℕ, zero, suc}
+use Prim.Native.Nat.{ℕ, zero, suc, _+_}
 use mathlib.Core.Path.{_≡_, refl}
 use mathlib.Core.List.{List, [], _∷_, _++_, map}
 use Rattle.base.specs.Text.{bytes}
@@ -13,6 +13,7 @@ use Rattle.sheet.specs.Sheet.{word, constant, binary, set, send, goto, Conditio
 use Rattle.sheet.specs.Orders.{code, temporaries}
 use Rattle.sheet.specs.Condition.{asking, conditionTemporaries}
 use Rattle.sheet.specs.Translation.{size}
+use Rattle.sheet.specs.Within.{mostLevels}
 use Rattle.source.specs.Cells.{outside, turn, sourceEnd, onTurn, statementsFrom}
 use Rattle.source.specs.Tokens.{firstOf, run, pastRun, decimalValue, textAt, packed, lexeme, onOne, lexemesIn}
 use Rattle.source.specs.Grammar.{next, opens, behindFirst, joined, startOf, operandBy, linksBy, expressionIn, named, jump, simpleAt, relationAt, labelsAt, labelledForm, isNameList, finishing, form}
@@ -163,14 +164,14 @@ unfoldable pub levels : ℕ → Part → Part
 levels zero x = x
 levels (suc n) x = when yes (levels n x) end
 
-abbrev pub sixteenLevels : Example
-sixteenLevels = record { source = around 16 (bytes "SEND(1)\n"); is = accepted (sheet 0 (levels 16 (sends 1))) }
+abbrev pub mostLevelsDeep : Example
+mostLevelsDeep = record { source = around mostLevels (bytes "SEND(1)\n"); is = accepted (sheet 0 (levels mostLevels (sends 1))) }
 
-abbrev pub seventeenLevels : Example
-seventeenLevels = record { source = around 17 (bytes "SEND(1)\n"); is = refusal 11 18 }
+abbrev pub oneLevelDeeper : Example
+oneLevelDeeper = record { source = around (mostLevels + 1) (bytes "SEND(1)\n"); is = refusal 11 (mostLevels + 2) }
 
 abbrev pub loneInstructionTooDeep : Example
-loneInstructionTooDeep = record { source = around 16 (bytes "%IF 1=1 %THEN SEND(1)\n"); is = refusal 11 18 }
+loneInstructionTooDeep = record { source = around mostLevels (bytes "%IF 1=1 %THEN SEND(1)\n"); is = refusal 11 (mostLevels + 2) }
 
 abbrev pub examples : List Example
 examples =
@@ -197,8 +198,8 @@ examples =
     ∷ finishBeforeBegin
     ∷ openGroups
     ∷ openSecondPart
-    ∷ sixteenLevels
-    ∷ seventeenLevels
+    ∷ mostLevelsDeep
+    ∷ oneLevelDeeper
     ∷ loneInstructionTooDeep
     ∷ []
 

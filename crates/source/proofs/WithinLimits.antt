@@ -45,6 +45,6 @@ answer-within source =
     (λ y. tt)
     (λ n. allowed-within source (notAllowed 0 source) refl)
 
--- "A sheet is any such list with V up to 64 whose translation has T up to 32 and N up to 1,024": an accepted source's is one
+-- "A sheet is any such list with V up to .. whose translation has T up to .. and N up to ..": an accepted source's is one
 pub given-within : (source : List ℕ) (s : Sheet) → answer source ≡ accepted s → Within s
 given-within source s e = subst AnswerWithin e (answer-within source)

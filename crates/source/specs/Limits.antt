@@ -1,5 +1,6 @@
 -- The limits of a source, document 01. Those of variables, temporaries and orders are the object's.
 use Prim.Native.Nat.{ℕ}
+use Rattle.text.specs.Pieces.{greatestNumber}
 
 -- "Source is 0 to 16,384 bytes"
 abbrev pub mostBytes : ℕ
@@ -11,7 +12,7 @@ mostCells = 256
 
 -- "A decimal constant is 0 to 2147483647."
 abbrev pub greatestConstant : ℕ
-greatestConstant = 2147483647
+greatestConstant = greatestNumber
 
 -- "Labels are decimal, 1 to 9999."
 abbrev pub greatestLabel : ℕ

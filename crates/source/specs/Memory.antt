@@ -4,10 +4,12 @@ use mathlib.Core.List.{List, [], _∷_, _++_, map}
 use lib.Dec.{eqb}
 use lib.ListN.{length, getD, take, drop}
 use Rattle.base.specs.Choice.{pick}
+use Rattle.order.specs.Limits.{mostVariables}
 use Rattle.sheet_field.specs.Memory.{operatorNumber, relationNumber, operators, relations}
 use Rattle.source.specs.declared.Statement.{Statement}
 use Rattle.source.specs.declared.Token.{Token}
 use Rattle.source.specs.declared.Token.the-variants.{Name, Number, Quoted, Binary, Compare, Mark}
+use Rattle.source.specs.Limits.{mostCells, mostLabels}
 use Rattle.source.specs.Tokens.{Lexeme, name, token}
 
 -- the cells that a statement holds
@@ -47,10 +49,10 @@ unfoldable pub tokensFrom : ℕ → ℕ → List ℕ → List ℕ → List Token
 tokensFrom k zero ks vs = []
 tokensFrom k (suc n) ks vs = tokenOf (getD ks k 0) (getD vs k 0) ∷ tokensFrom (suc k) n ks vs
 
--- ---- the same where a name carries the place of its first cell, times 256, and its length
+-- ---- the same where a name carries the place of its first cell, times mostCells, and its length
 
 unfoldable pub lexemeOf : List ℕ → ℕ → ℕ → Lexeme
-lexemeOf cells k v = pick (eqb k 0) (name (take (v % 256) (drop (v / 256) cells))) (token (tokenOf k v))
+lexemeOf cells k v = pick (eqb k 0) (name (take (v % mostCells) (drop (v / mostCells) cells))) (token (tokenOf k v))
 
 unfoldable pub lexemesFrom : ℕ → ℕ → List ℕ → List ℕ → List ℕ → List Lexeme
 lexemesFrom k zero cells ks vs = []
@@ -59,9 +61,16 @@ lexemesFrom k (suc n) cells ks vs =
 
 -- ---- the tables of names and of labels
 
--- their rows: one statement can pass the 64 that are allowed by 128
-abbrev pub tableRows : ℕ
-tableRows = 192
+-- the most names, or labels, of one statement: each has a cell and one behind it
+abbrev pub mostListed : ℕ
+mostListed = mostCells / 2
+
+-- the rows: one statement can pass the names, and the labels, that are allowed by so many
+abbrev pub nameRows : ℕ
+nameRows = mostVariables + mostListed
+
+abbrev pub labelRows : ℕ
+labelRows = mostLabels + mostListed
 
 -- how many letters names have together
 unfoldable pub lettersIn : List (List ℕ) → ℕ

@@ -166,7 +166,7 @@ declaring p ns =
       here = p .here;
     }
 
--- "over 64 variables"
+-- "over .. variables"
 abbrev pub declare : Program → ℕ → List (List ℕ) → Outcome
 declare p k ns =
     pick
@@ -289,11 +289,11 @@ temporariesIn (ifThen c u) = max (conditionTemporaries c) (simpleTemporaries u)
 temporariesIn (ifElse c u w) = max (conditionTemporaries c) (max (simpleTemporaries u) (simpleTemporaries w))
 temporariesIn (ifStart c) = conditionTemporaries c
 
--- "over .. 64 set labels"
+-- "over .. set labels"
 abbrev pub withFewLabels : ℕ → Program → Outcome → Outcome
 withFewLabels k p o = pick (ltb mostLabels (length (p .set))) (refused 11 k) o
 
--- "Orders are over at the first statement where those so far and STOP pass 1,024."
+-- "Orders are over at the first statement where those so far and STOP pass" the limit
 abbrev pub withFewOrders : ℕ → Program → Outcome
 withFewOrders k p = pick (ltb mostOrders (suc (ordersSoFar p))) (refused 11 k) (further p)
 

@@ -9,14 +9,16 @@ pub const MOST_BYTES: usize = 16384;
 
 pub const MOST_CELLS: usize = 256;
 
-pub const GREATEST_CONSTANT: u64 = 2147483647;
+pub const GREATEST_CONSTANT: u64 = text::GREATEST_NUMBER;
 
 pub const GREATEST_LABEL: u32 = 9999;
 
 pub const MOST_LABELS: u32 = 64;
 
-// `tableRows` of specs/Memory.antt.
-pub const TABLE_ROWS: u32 = 192;
+// `nameRows` and `labelRows` of specs/Memory.antt.
+pub const NAME_ROWS: usize = order::MOST_VARIABLES as usize + MOST_CELLS / 2;
+
+pub const LABEL_ROWS: usize = MOST_LABELS as usize + MOST_CELLS / 2;
 
 // A statement: its cells and how many there are, without the end mark. A cell is document 01's word: "Each byte kept is a cell".
 pub struct Statement {

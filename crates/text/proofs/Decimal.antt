@@ -10,7 +10,7 @@ use Rattle.base.specs.Choice.{pick}
 use Rattle.base.specs.Front.{found}
 use Rattle.base.proofs.Cases.{by-less, by-test}
 use Rattle.base.proofs.Fronts.{never, not-refused}
-use Rattle.text.specs.Pieces.{digitsOf, decimal, digits, numeral}
+use Rattle.text.specs.Pieces.{digitsOf, decimal, digits, numeral, greatestNumber}
 
 -- ---- the digits of a number
 
@@ -45,7 +45,7 @@ few-digits (suc k) n =
     (λ g. rw (more-digits k n g, length-append (digitsOf k (n / 10)) ((n % 10 + 48) ∷ [])) (omega (arith, few-digits k (n / 10))))
 
 -- a number with one digit more, b, before the text l
-decimal-digit : (v b : ℕ) (l : List ℕ) → 0 < v → 48 ≤ b → b ≤ 57 → v * 10 + (b - 48) ≤ 2147483647
+decimal-digit : (v b : ℕ) (l : List ℕ) → 0 < v → 48 ≤ b → b ≤ 57 → v * 10 + (b - 48) ≤ greatestNumber
     → decimal (v * 10 + (b - 48)) ++ l ≡ decimal v ++ b ∷ l
 decimal-digit v b l some low high small =
     let front : (v * 10 + (b - 48)) / 10 ≡ v = omega arith in
@@ -62,16 +62,16 @@ first-read close d rest digit =
     rw (le-ltb (d + 48) 48 (omega arith), le-ltb 57 (d + 48) (omega arith), same)
 
 module _ (close : ℕ) (below : close < 48) where
-  next-read : (v d : ℕ) (rest : List ℕ) → 0 < v → d < 10 → v * 10 + d ≤ 2147483647
+  next-read : (v d : ℕ) (rest : List ℕ) → 0 < v → d < 10 → v * 10 + d ≤ greatestNumber
       → digits close v ((d + 48) ∷ rest) ≡ digits close (v * 10 + d) rest
   unfolding digits pick
   next-read v d rest some digit small =
       let same : d + 48 - 48 ≡ d = omega arith in
       rw (ne-eqb (d + 48) close (λ e. omega arith), le-ltb (d + 48) 48 (omega arith), le-ltb 57 (d + 48) (omega arith))
-      (rw (ne-eqb v 0 (λ e. omega arith), same, le-ltb 2147483647 (v * 10 + d) small))
+      (rw (ne-eqb v 0 (λ e. omega arith), same, le-ltb greatestNumber (v * 10 + d) small))
 
   -- behind its digits, what has been read is n
-  all-read : (k n : ℕ) (rest : List ℕ) → n < 10 ^ suc k → n ≤ 2147483647 → numeral close (digitsOf (suc k) n ++ rest) ≡ digits close n rest
+  all-read : (k n : ℕ) (rest : List ℕ) → n < 10 ^ suc k → n ≤ greatestNumber → numeral close (digitsOf (suc k) n ++ rest) ≡ digits close n rest
   all-read zero n rest room small = rw (one-digit 0 n (omega arith)) (first-read close n rest (omega arith))
   all-read (suc k) n rest room small =
       by-less n 10
@@ -81,7 +81,7 @@ module _ (close : ℕ) (below : close < 48) where
       ∙ next-read (n / 10) (n % 10) rest (omega arith) (omega arith) (omega arith)
       ∙ ap (λ m. digits close m rest) (omega arith)))
 
-pub numeral-decimal : (close n : ℕ) (rest : List ℕ) → n ≤ 2147483647 → close < 48 → numeral close (decimal n ++ close ∷ rest) ≡ found n rest
+pub numeral-decimal : (close n : ℕ) (rest : List ℕ) → n ≤ greatestNumber → close < 48 → numeral close (decimal n ++ close ∷ rest) ≡ found n rest
 unfolding digits pick
 numeral-decimal close n rest small below =
     all-read close below 9 n (close ∷ rest) (omega arith) small ∙ rw (eq-eqb close close refl)
@@ -89,8 +89,8 @@ numeral-decimal close n rest small below =
 -- ---- a number that is read was written
 
 -- the digits that make v, and those that are read behind them, are the digits of the number found
-digits-decimal : (close v w : ℕ) (l rest : List ℕ) → v ≤ 2147483647 → digits close v l ≡ found w rest
-    → (decimal v ++ l ≡ decimal w ++ close ∷ rest) × (w ≤ 2147483647)
+digits-decimal : (close v w : ℕ) (l rest : List ℕ) → v ≤ greatestNumber → digits close v l ≡ found w rest
+    → (decimal v ++ l ≡ decimal w ++ close ∷ rest) × (w ≤ greatestNumber)
 unfolding digits pick
 digits-decimal close v w [] rest small e = never e
 digits-decimal close v w (b ∷ l) rest small e =
@@ -102,13 +102,13 @@ digits-decimal close v w (b ∷ l) rest small e =
     (λ n. let low = not-refused (ltb b 48) _ (rw n at e) in
     let high = not-refused (ltb 57 b) _ (low .1) in
     let some = not-refused (eqb v 0) _ (high .1) in
-    let in-range = not-refused (ltb 2147483647 (v * 10 + (b - 48))) _ (some .1) in
-    let fits = ltb-false 2147483647 (v * 10 + (b - 48)) (in-range .0) in
+    let in-range = not-refused (ltb greatestNumber (v * 10 + (b - 48))) _ (some .1) in
+    let fits = ltb-false greatestNumber (v * 10 + (b - 48)) (in-range .0) in
     let one-more = decimal-digit v b l (omega (arith, eqb-false v 0 (some .0))) (ltb-false b 48 (low .0)) (ltb-false 57 b (high .0)) fits in
     let behind = digits-decimal close (v * 10 + (b - 48)) w l rest fits (in-range .1) in
     (sym one-more ∙ behind .0, behind .1))
 
-pub decimal-numeral : (close n : ℕ) (l rest : List ℕ) → numeral close l ≡ found n rest → (l ≡ decimal n ++ close ∷ rest) × (n ≤ 2147483647)
+pub decimal-numeral : (close n : ℕ) (l rest : List ℕ) → numeral close l ≡ found n rest → (l ≡ decimal n ++ close ∷ rest) × (n ≤ greatestNumber)
 unfolding numeral
 decimal-numeral close n [] rest e = never e
 decimal-numeral close n (b ∷ l) rest e =

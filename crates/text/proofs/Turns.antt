@@ -8,7 +8,7 @@ use lib.ListN.{length, getD, drop, drop-of-length-le}
 use Rattle.base.specs.Choice.{pick}
 use Rattle.base.specs.Front.{found, missing}
 use Rattle.base.proofs.Lists.{drop-more}
-use Rattle.text.specs.Pieces.{fixed, digits, numeral}
+use Rattle.text.specs.Pieces.{fixed, digits, numeral, greatestNumber}
 
 module _ (string s : List ℕ) (k i : ℕ) where
   -- the string is read to its end
@@ -52,7 +52,7 @@ module _ (s : List ℕ) (close v i : ℕ) where
       (eqb v 0)
       missing
       (pick
-      (ltb 2147483647 (v * 10 + (getD s i 0 - 48)))
+      (ltb greatestNumber (v * 10 + (getD s i 0 - 48)))
       missing
       (digits close (v * 10 + (getD s i 0 - 48)) (drop (i + 1) s))))))
   unfolding digits

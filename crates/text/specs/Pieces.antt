@@ -17,6 +17,10 @@ digitsOf (suc k) n = pick (ltb n 10) ((n + 48) ∷ []) (digitsOf k (n / 10) ++ (
 abbrev pub decimal : ℕ → List ℕ
 decimal n = digitsOf 10 n
 
+-- "0 to 2147483647"
+abbrev pub greatestNumber : ℕ
+greatestNumber = 2147483647
+
 -- ---- reading at the front of a text
 
 -- what stands at the front of a text, and the text behind it; or nothing of the form looked for
@@ -43,7 +47,7 @@ digits close v (b ∷ l) =
     (pick
     (ltb 57 b)
     missing
-    (pick (eqb v 0) missing (pick (ltb 2147483647 (v * 10 + (b - 48))) missing (digits close (v * 10 + (b - 48)) l)))))
+    (pick (eqb v 0) missing (pick (ltb greatestNumber (v * 10 + (b - 48))) missing (digits close (v * 10 + (b - 48)) l)))))
 
 -- a number and the byte that closes its field
 unfoldable pub numeral : ℕ → List ℕ → Front ℕ

@@ -1,4 +1,5 @@
 // Pieces of text: fixed strings and numbers, read at a place.
+use crate::GREATEST_NUMBER;
 ghost use mathlib.Core.Path.{_≡_};
 ghost use Prim.Native.Nat.{_+_};
 ghost use lib.ListN.{length, drop};
@@ -59,7 +60,7 @@ fn digits_at(s: &[u8], at: usize, close: u8, first: u8) -> Numeral
             return Numeral::Missing;
         }
         v = v * 10 + (b - 48) as u64;
-        if 2147483647 < v {
+        if GREATEST_NUMBER < v {
             return Numeral::Missing;
         }
         i += 1;

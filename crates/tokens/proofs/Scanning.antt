@@ -38,14 +38,14 @@ token-stored : (cells : List ℕ) (t : Token) → 0 < tokenKind t → lexemeOf c
 unfolding lexemeOf pick
 token-stored cells t h = rw (ne-eqb (tokenKind t) 0 (λ e. omega arith)) (ap token (token-again t))
 
-name-stored : (cells : List ℕ) (at n : ℕ) → n < 256 → lexemeOf cells 0 (at * 256 + n) ≡ name (take n (drop at cells))
+name-stored : (cells : List ℕ) (at n : ℕ) → n < mostCells → lexemeOf cells 0 (at * mostCells + n) ≡ name (take n (drop at cells))
 unfolding lexemeOf pick
 name-stored cells at n h =
-    let low : (at * 256 + n) % 256 ≡ n = omega arith in
-    let high : (at * 256 + n) / 256 ≡ at = omega arith in
+    let low : (at * mostCells + n) % mostCells ≡ n = omega arith in
+    let high : (at * mostCells + n) / mostCells ≡ at = omega arith in
     rw (low, high)
 
-stored-in : (cells : List ℕ) (at : ℕ) (a : Answer) → length cells < 256 → Sound at (length cells) a → oneIn cells at a ≡ storedIn cells (storedOf at a)
+stored-in : (cells : List ℕ) (at : ℕ) (a : Answer) → length cells < mostCells → Sound at (length cells) a → oneIn cells at a ≡ storedIn cells (storedOf at a)
 stored-in cells at (TokenAt t q) few s = ap (λ x. one x (drop q cells)) (sym (token-stored cells t (s .1)))
 stored-in cells at (Name q) few s =
     let on : at < q = s .0 in
@@ -65,7 +65,7 @@ pub falls : (cells : List ℕ) (at : ℕ) (a : Answer) (o : One) (k v q : ℕ) �
 falls cells at a o k v q h is e = let on : at < q = stored-on at (length cells) a k v q (is .sound) e in omega arith
 
 -- a name ends within the cells
-pub within : (cells : List ℕ) (at : ℕ) (a : Answer) (o : One) → length cells < 256 → Is cells at a o → Sound at 255 a
+pub within : (cells : List ℕ) (at : ℕ) (a : Answer) (o : One) → length cells < mostCells → Is cells at a o → Sound at mostCells a
 within cells at (TokenAt t q) o few is = is .sound
 within cells at (Name q) o few is = let inside : q ≤ length cells = is .sound .1 in (is .sound .0, omega arith)
 within cells at (Wrong n) o few is = tt
@@ -111,12 +111,12 @@ one-more cells ks vs n k v h g =
 -- what holds before each token. At most as many tokens follow as there are cells without the tokens so far.
 pub record Scans (cells ks vs : List ℕ) (at n : ℕ) : Type 0 where
   pub same : allBehind (lexemesFrom 0 n cells ks vs) (lexemesIn (length cells - n) (drop at cells)) ≡ lexemes cells
-  pub room : 256 ≤ length ks
-  pub other : 256 ≤ length vs
+  pub room : mostCells ≤ length ks
+  pub other : mostCells ≤ length vs
   pub few : n ≤ length cells
   pub on : n ≤ at
 
-pub scans-first : (cells ks vs : List ℕ) → 256 ≤ length ks → 256 ≤ length vs → Scans cells ks vs 0 0
+pub scans-first : (cells ks vs : List ℕ) → mostCells ≤ length ks → mostCells ≤ length vs → Scans cells ks vs 0 0
 scans-first cells ks vs room other = record { same = none; room = room; other = other; few = omega arith; on = omega arith }
   where
     none : allBehind (lexemesFrom 0 0 cells ks vs) (lexemesIn (length cells - 0) (drop 0 cells)) ≡ lexemes cells
@@ -131,7 +131,7 @@ unfolding lexemesIn
 no-more zero = refl
 no-more (suc k) = refl
 
-module _ (cells ks vs : List ℕ) (at n : ℕ) (few : length cells < 256) (scans : Scans cells ks vs at n) where
+module _ (cells ks vs : List ℕ) (at n : ℕ) (few : length cells < mostCells) (scans : Scans cells ks vs at n) where
   module _ (h : at < length cells) (a : Answer) (is : Is cells at a (lexeme (getD cells at 0) (drop (at + 1) cells))) where
     -- the token at this place, and those behind it
     here : lexemesIn (length cells - n) (drop at cells)
@@ -163,8 +163,8 @@ module _ (cells ks vs : List ℕ) (at n : ℕ) (few : length cells < 256) (scans
         more : allBehind (lexemesFrom 0 (n + 1) cells (set ks n k) (set vs n v)) (lexemesIn (length cells - (n + 1)) (drop q cells)) ≡ lexemes cells
         more =
             let on : n ≤ at = scans .on in
-            let room : 256 ≤ length ks = scans .room in
-            let other : 256 ≤ length vs = scans .other in
+            let room : mostCells ≤ length ks = scans .room in
+            let other : mostCells ≤ length vs = scans .other in
             ap (λ xs. allBehind xs (lexemesIn (length cells - (n + 1)) (drop q cells))) (one-more cells ks vs n k v (omega arith) (omega arith))
             ∙ one-behind (lexemesFrom 0 n cells ks vs) (lexemeOf cells k v) (lexemesIn (length cells - (n + 1)) (drop q cells))
             ∙ ap (allBehind (lexemesFrom 0 n cells ks vs)) (sym (here ∙ ap (λ s. onOne (storedIn cells s) (λ rest. lexemesIn (length cells - (n + 1)) rest)) e ∙ token-here))
@@ -208,7 +208,7 @@ fits n room other e =
     let two = both-yes (leb mostCells room) (leb mostCells other) (one .1) in
     record { mark = ltb-true n mostCells (one .0); kinds = leb-true mostCells room (two .0); values = leb-true mostCells other (two .1) }
 
-pub front-few : (n : ℕ) (cells : List ℕ) → n < 256 → length (take n cells) < 256
+pub front-few : (n : ℕ) (cells : List ℕ) → n < mostCells → length (take n cells) < mostCells
 front-few n cells few = let e = length-take n cells in omega (arith, e, few)
 
 module _ (s : Statement) (ks vs : List ℕ) where

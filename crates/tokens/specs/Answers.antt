@@ -23,7 +23,7 @@ lexedIn cells (Tokens n) ks vs = told (lexed (lexemesFrom 0 n cells ks vs))
 lexedIn cells (Refused k) ks vs = told (refused k)
 lexedIn cells Unfit ks vs = unfit
 
--- whether n cells and two arrays with so many places are fit. A name of 256 letters has no number in memory, so the statement
+-- whether n cells and two arrays with so many places are fit. A name of mostCells letters has no number in memory, so the statement
 -- has room for an end mark.
 abbrev pub fit : ℕ → ℕ → ℕ → Bool
 fit n room other = pick (ltb n mostCells) (pick (leb mostCells room) (leb mostCells other) false) false

@@ -3,6 +3,7 @@ use Prim.Native.Nat.{ℕ, _+_, _-_, _*_, _≤_}
 use mathlib.Core.Path.{_≡_}
 use mathlib.Core.List.{List}
 use lib.ListN.{length, take, drop}
+use Rattle.source.specs.Limits.{mostCells}
 use Rattle.source.specs.Memory.{tokenKind, tokenCarried}
 use Rattle.source.specs.Tokens.{run, pastRun, inName, lexemes}
 use Rattle.tokens_fixed.specs.declared.One.{One as Answer}
@@ -26,7 +27,7 @@ pub record RunEnds (cells : List ℕ) (at end : ℕ) : Type 0 where
 -- what is stored of a token, or of a name that stands from the place `at` on
 abbrev pub storedOf : ℕ → Answer → Stored
 storedOf at (TokenAt t q) = At (tokenKind t) (tokenCarried t) q
-storedOf at (Name q) = At 0 (at * 256 + (q - at)) q
+storedOf at (Name q) = At 0 (at * mostCells + (q - at)) q
 storedOf at (Wrong n) = Refusal n
 
 abbrev pub FewOf : List ℕ → Lexed → Type 0

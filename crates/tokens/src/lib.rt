@@ -27,14 +27,14 @@ enum Stored {
     Wrong(u32),
 }
 
-// A name carries the place of its first cell, times 256, and its length.
+// A name carries the place of its first cell, times MOST_CELLS, and its length.
 fn stored_of(one: One, at: usize) -> Stored
-    requires { ⌜ Sound at 255 one ⌝ }
+    requires { ⌜ Sound at mostCells one ⌝ }
     ensures { λ r. ⌜ r ≡ storedOf at one ⌝ }
 {
     match one {
         One::Token(t, q) => Stored::At(token_number::kind_of(t), token_number::value_of(t), q),
-        One::Name(q) => Stored::At(0, (at * 256 + (q - at)) as u32, q),
+        One::Name(q) => Stored::At(0, (at * MOST_CELLS + (q - at)) as u32, q),
         One::Wrong(k) => Stored::Wrong(k),
     }
 }

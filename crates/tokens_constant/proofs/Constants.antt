@@ -14,6 +14,7 @@ use Rattle.base.specs.Choice.{pick}
 use Rattle.base.proofs.Cases.{by-less, by-test}
 use Rattle.base.proofs.Lists.{drop-more}
 use Rattle.source.specs.declared.Token.the-variants.{Number, Quoted}
+use Rattle.source.specs.Limits.{greatestConstant}
 use Rattle.source.specs.Tokens.{One, one, wrong, token, isDigit, run, pastRun, decimalValue, Text, text, unclosed, longer, textAt, packed, constantOf}
 use Rattle.tokens_fixed.specs.declared.One.the-variants.{Token as TokenAt, Wrong}
 use Rattle.tokens_constant.specs.declared.Character.the-variants.{Plain, Close, Missing}
@@ -40,25 +41,25 @@ unfolding decimalValue
 grows v [] = omega arith
 grows v (c ∷ l) = le-trans (omega arith) (grows (v * 10 + (c - 48)) l)
 
-too-great : (v : ℕ) (l : List ℕ) → 2147483647 < v → wrong 6 ≡ decimalFrom v l
+too-great : (v : ℕ) (l : List ℕ) → greatestConstant < v → wrong 6 ≡ decimalFrom v l
 unfolding decimalFrom pick
 too-great v l h =
     let more : v ≤ decimalValue v (run isDigit l) = grows v (run isDigit l) in
-    rw (lt-ltb 2147483647 (decimalValue v (run isDigit l)) (omega arith))
+    rw (lt-ltb greatestConstant (decimalValue v (run isDigit l)) (omega arith))
 
 -- where no digit follows
 stops : (c : ℕ) (l : List ℕ) → isDigit c ≡ false → (run isDigit (c ∷ l) ≡ []) × (pastRun isDigit (c ∷ l) ≡ c ∷ l)
 unfolding run pastRun pick
 stops c l e = (rw e refl, rw e refl)
 
-no-digits : (v : ℕ) (l : List ℕ) → v ≤ 2147483647 → run isDigit l ≡ [] → pastRun isDigit l ≡ l → one (token (Number v)) l ≡ decimalFrom v l
+no-digits : (v : ℕ) (l : List ℕ) → v ≤ greatestConstant → run isDigit l ≡ [] → pastRun isDigit l ≡ l → one (token (Number v)) l ≡ decimalFrom v l
 unfolding decimalFrom decimalValue pick
-no-digits v l small none past = rw (none, past, le-ltb 2147483647 v small) refl
+no-digits v l small none past = rw (none, past, le-ltb greatestConstant v small) refl
 
 -- what holds before each digit
 pub record Digits (cells : List ℕ) (at first i v : ℕ) : Type 0 where
   pub same : decimalFrom v (drop i cells) ≡ decimalFrom first (drop at cells)
-  pub small : v ≤ 2147483647
+  pub small : v ≤ greatestConstant
   pub forward : at ≤ i
 
 pub digits-first : (cells : List ℕ) (at first : ℕ) → first < 256 → Digits cells at first at first
@@ -71,13 +72,13 @@ module _ (cells : List ℕ) (at first i v : ℕ) (digits : Digits cells at first
     unfolding decimalFrom run pastRun decimalValue pick
     one-digit low high = rw (drop-more cells i 0 h, digit-yes (getD cells i 0) low high) refl
 
-    pub digits-turn : 48 ≤ getD cells i 0 → getD cells i 0 ≤ 57 → v * 10 + (getD cells i 0 - 48) ≤ 2147483647
+    pub digits-turn : 48 ≤ getD cells i 0 → getD cells i 0 ≤ 57 → v * 10 + (getD cells i 0 - 48) ≤ greatestConstant
         → Digits cells at first (i + 1) (v * 10 + (getD cells i 0 - 48))
     digits-turn low high small =
         let from : at ≤ i = digits .forward in
         record { same = one-digit low high ∙ digits .same; small = small; forward = omega arith }
 
-    pub digits-over : 48 ≤ getD cells i 0 → getD cells i 0 ≤ 57 → 2147483647 < v * 10 + (getD cells i 0 - 48)
+    pub digits-over : 48 ≤ getD cells i 0 → getD cells i 0 ≤ 57 → greatestConstant < v * 10 + (getD cells i 0 - 48)
         → Constant cells at (Wrong 6) (decimalFrom first (drop at cells))
     digits-over low high great =
         record { same = too-great _ (drop (i + 1) cells) great ∙ one-digit low high ∙ digits .same; sound = tt }

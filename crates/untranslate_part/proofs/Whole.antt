@@ -7,9 +7,11 @@ use native.Mathlib.Omega.{arith}
 use lib.ListN.{length, length-append, length-map}
 use lib.Seq.{sets}
 use Rattle.order.specs.declared.Order.the-variants.{Stop}
+use Rattle.order.specs.Limits.{mostVariables, mostOrders}
 use Rattle.order.specs.Memory.{orderIn, ordersIn}
 use Rattle.sheet.specs.Sheet.{Part, count, sheet}
 use Rattle.sheet.specs.Translation.{size, firstOrder, partCode, translation}
+use Rattle.sheet.specs.Within.{mostLevels}
 use Rattle.sheet.proofs.Sizes.{code-length}
 use Rattle.untranslate_part.specs.Guess.{Guessing}
 use Rattle.untranslate_part.specs.Internal.{numbers, Parting}
@@ -22,14 +24,14 @@ sheet-length v x os same =
     sym (length-map os orderIn) ∙ ap length same ∙ length-append cs (Stop ∷ []) ∙ ap (λ n. n + 1) (code-length v (firstOrder v x) 0 x)
 
 module _ (os : List ℕ) (v : ℕ) (fs : List ℕ) where
-  pub guess-variables : 64 < v → Guessing os v fs 0 fs
+  pub guess-variables : mostVariables < v → Guessing os v fs 0 fs
   guess-variables h = record {
     kept = refl;
     inside = omega arith;
     whole = λ x formed shallow same few-variables few-orders room. absurd (omega arith);
   }
 
-  pub guess-orders : 1024 < length os → Guessing os v fs 0 fs
+  pub guess-orders : mostOrders < length os → Guessing os v fs 0 fs
   guess-orders h = record {
     kept = refl;
     inside = omega arith;
@@ -48,7 +50,7 @@ module _ (os : List ℕ) (v : ℕ) (fs : List ℕ) where
       → table ≡ sets base 0 (numbers (v + 2) true 1 (ordersIn os))
       → length os ≤ length base
       → (r : ℕ) (after : List ℕ)
-      → Parting os table 0 (length os - 1) (v + 2) 16 fs 0 r after
+      → Parting os table 0 (length os - 1) (v + 2) mostLevels fs 0 r after
       → Guessing os v fs r after
   guess-read base table filled fits r after part = record {
     kept = part .safe .kept;

@@ -2,6 +2,7 @@ use mathlib.Core.Path.{refl, sym, _∙_}
 use lib.ListN.{replicate}
 use lib.Seq.{length-take-le}
 use Rattle.base.proofs.Cases.{cases}
+use Rattle.order.specs.Limits.{mostWords}
 use Rattle.call.specs.Run.{objectCall}
 use Rattle.call_run.proofs.Calls.{part-fits, fitting-call}
 use borrow.Author.Needs.{needs}
@@ -14,7 +15,7 @@ slice-aggregate-run-with c = sym (length-take-le _ _ (c .before .before .before 
 run-with-requires : tie.Need-run-with-requires
 run-with-requires c κs =
     let st = c .before .before .before .before .before .before .before .before .before .before in
-    part-fits _ _ _ _ (replicate 98 0) refl (st .pre) (sym (c .before .before .before .before .state-fits .ensures) ∙ c .before .before .before .if1 .taken)
+    part-fits _ _ _ _ (replicate mostWords 0) refl (st .pre) (sym (c .before .before .before .before .state-fits .ensures) ∙ c .before .before .before .if1 .taken)
 
 returns : tie.Need-returns
 returns c =

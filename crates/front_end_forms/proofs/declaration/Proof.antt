@@ -1,3 +1,4 @@
+use native.Mathlib.Omega.{arith}
 use Rattle.front_end_forms.proofs.Steps.{declared-elsewhere, comes-twice, declared-fits, comes-many, comes-declared}
 use borrow.Author.Needs.{needs}
 use Rattle.front_end_forms.proofs.declaration.Statement.{statement}
@@ -7,10 +8,10 @@ returns : tie.Need-returns
 returns c = λ q ls gs fs h few room. declared-elsewhere h (c .before .before .before .before .before .before .before .args .k) _ (c .if1 .taken) _
 
 returns-2 : tie.Need-returns-2
-returns-2 c = λ q ls gs fs h few room. comes-many h (c .before .before .before .before .before .before .before .before .before .before .before .before .before .before .before .before .before .before .args .k) _ (c .before .before .before .before .before .before .before .before .before .before .before .if1 .left) few room _ _ (c .before .before .before .before .before .before .before .before .declare .ensures) _ _ (c .before .before .v .given .1) (c .if2 .taken)
+returns-2 c = λ q ls gs fs h few room. comes-many h (c .before .before .before .before .before .before .before .before .before .before .before .before .before .before .before .before .before .before .args .k) _ (c .before .before .before .before .before .before .before .before .before .before .before .if1 .left) few room _ _ (c .before .before .before .before .before .before .before .before .declare .ensures) _ _ (c .before .before .v .given .1) (let v = c .if2 .taken in omega (arith, v))
 
 returns-3 : tie.Need-returns-3
-returns-3 c = λ q ls gs fs h few room. comes-declared h (c .before .before .before .before .before .before .before .before .before .before .before .before .before .before .before .before .before .before .args .k) _ (c .before .before .before .before .before .before .before .before .before .before .before .if1 .left) few room _ _ (c .before .before .before .before .before .before .before .before .declare .ensures) _ _ (c .before .before .v .given .1) (c .if2 .left)
+returns-3 c = λ q ls gs fs h few room. comes-declared h (c .before .before .before .before .before .before .before .before .before .before .before .before .before .before .before .before .before .before .args .k) _ (c .before .before .before .before .before .before .before .before .before .before .before .if1 .left) few room _ _ (c .before .before .before .before .before .before .before .before .declare .ensures) _ _ (c .before .before .v .given .1) (let v = c .if2 .left in omega (arith, v))
 
 returns-4 : tie.Need-returns-4
 returns-4 c = λ q ls gs fs h few room. comes-twice h (c .before .before .before .before .before .before .before .before .before .before .before .before .before .before .before .before .args .k) _ (c .before .before .before .before .before .before .before .before .before .if1 .left) few room _ _ (c .before .before .before .before .before .before .declare .ensures) (c .enum-told .given .1)
@@ -24,7 +25,6 @@ declaration-spec =
     (tie.spec
     returns
     (λ c κs. search needs)
-    (λ c. search needs)
     (λ c. search needs)
     (λ c. search needs)
     (λ c. search needs)

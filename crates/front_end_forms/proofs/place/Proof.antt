@@ -1,3 +1,4 @@
+use native.Mathlib.Omega.{arith}
 use Rattle.front_end_forms.proofs.Placing.{over-temporaries, over-orders, over-levels, fields-fit, comes-placed}
 use borrow.Author.Needs.{needs}
 use Rattle.front_end_forms.proofs.place.Statement.{statement}
@@ -7,16 +8,16 @@ returns : tie.Need-returns
 returns c = λ q ns ls i h few is good. over-temporaries h (c .before .before .before .before .before .before .args .k) i _ _ is _ (c .before .before .size-of .ensures) (c .if1 .taken)
 
 returns-2 : tie.Need-returns-2
-returns-2 c = λ q ns ls i h few is good. over-orders h (c .before .before .before .before .before .before .before .before .before .args .k) i _ _ is _ (c .before .before .before .before .before .size-of .ensures) (c .before .before .before .if1 .left) (c .if2 .taken)
+returns-2 c = λ q ns ls i h few is good. over-orders h (c .before .before .before .before .before .before .before .before .before .args .k) i _ _ is _ (c .before .before .before .before .before .size-of .ensures) (c .before .before .before .if1 .left) (let n = c .if2 .taken in omega (arith, n))
 
 returns-3 : tie.Need-returns-3
 returns-3 c = λ q ns ls i h few is good. over-levels h (c .before .before .before .before .before .before .before .before .before .before .before .args .k) i _ _ is _ (c .before .before .before .before .before .before .before .size-of .ensures) (c .before .before .before .before .before .if1 .left) _ (c .before .too-deep .ensures) (c .if3 .taken)
 
 returns-4 : tie.Need-returns-4
-returns-4 c = λ q ns ls i h few is good. fields-fit h (c .before .before .before .before .before .before .before .before .before .before .before .before .before .before .before .before .before .args .k) i _ _ is _ (c .before .before .before .before .before .before .before .before .before .before .before .before .before .size-of .ensures) good few (c .before .before .before .before .before .before .before .before .before .before .before .if1 .left) (c .before .before .before .before .before .before .before .before .if2 .left) _ (c .before .before .before .before .before .before .before .too-deep .ensures) (c .before .before .before .before .before .before .if3 .left) _ _ (c .before .before .before .before .append .ensures .0) (c .before .before .before .before .append .ensures .1) (c .enum-told .given .1)
+returns-4 c = λ q ns ls i h few is good. fields-fit h (c .before .before .before .before .before .before .before .before .before .before .before .before .before .before .before .before .before .args .k) i _ _ is _ (c .before .before .before .before .before .before .before .before .before .before .before .before .before .size-of .ensures) good few (c .before .before .before .before .before .before .before .before .before .before .before .if1 .left) (let n = c .before .before .before .before .before .before .before .before .if2 .left in omega (arith, n)) _ (c .before .before .before .before .before .before .before .too-deep .ensures) (c .before .before .before .before .before .before .if3 .left) _ _ (c .before .before .before .before .append .ensures .0) (c .before .before .before .before .append .ensures .1) (c .enum-told .given .1)
 
 returns-5 : tie.Need-returns-5
-returns-5 c = λ q ns ls i h few is good. comes-placed h (c .before .before .before .before .before .before .before .before .before .before .before .before .before .before .before .before .before .before .before .before .before .before .before .before .before .before .args .k) i _ _ is _ (c .before .before .before .before .before .before .before .before .before .before .before .before .before .before .before .before .before .before .before .before .before .before .size-of .ensures) good few (c .before .before .before .before .before .before .before .before .before .before .before .before .before .before .before .before .before .before .before .before .if1 .left) (c .before .before .before .before .before .before .before .before .before .before .before .before .before .before .before .before .before .if2 .left) _ (c .before .before .before .before .before .before .before .before .before .before .before .before .before .before .before .before .too-deep .ensures) (c .before .before .before .before .before .before .before .before .before .before .before .before .before .before .before .if3 .left) _ _ (c .before .before .before .before .before .before .before .before .before .before .before .before .before .append .ensures .0) (c .before .before .before .before .before .before .before .before .before .before .before .before .before .append .ensures .1) _ (c .before .before .before .before .before .before .before .before .before .n .given .1) _ _ (c .before .before .before .before .open-group .ensures)
+returns-5 c = λ q ns ls i h few is good. comes-placed h (c .before .before .before .before .before .before .before .before .before .before .before .before .before .before .before .before .before .before .before .before .before .before .before .before .before .before .args .k) i _ _ is _ (c .before .before .before .before .before .before .before .before .before .before .before .before .before .before .before .before .before .before .before .before .before .before .size-of .ensures) good few (c .before .before .before .before .before .before .before .before .before .before .before .before .before .before .before .before .before .before .before .before .if1 .left) (let n = c .before .before .before .before .before .before .before .before .before .before .before .before .before .before .before .before .before .if2 .left in omega (arith, n)) _ (c .before .before .before .before .before .before .before .before .before .before .before .before .before .before .before .before .too-deep .ensures) (c .before .before .before .before .before .before .before .before .before .before .before .before .before .before .before .if3 .left) _ _ (c .before .before .before .before .before .before .before .before .before .before .before .before .before .append .ensures .0) (c .before .before .before .before .before .before .before .before .before .before .before .before .before .append .ensures .1) _ (c .before .before .before .before .before .before .before .before .before .n .given .1) _ _ (c .before .before .before .before .open-group .ensures)
 
 pub place-spec : {M : Type 1} → statement M
 place-spec =

@@ -1,5 +1,6 @@
 use native.Mathlib.Omega.{arith}
 use mathlib.Core.Path.{_∙_}
+use Rattle.source.specs.Limits.{mostCells}
 use Rattle.grammar.proofs.Statements.{form-fit}
 use Rattle.front_end_statement.proofs.Forms.{looked-up, by-tokens, few-names-told}
 use borrow.Author.Needs.{needs}
@@ -15,7 +16,7 @@ returns : tie.Need-returns
 returns c = let a = c .before .before .before .before .before .before .before .before .before .before .before .before .before .before .before .before .before .before .before .before .before .before .before .before .before .before .before .before .before .before .before .before .before .before .before .args in
     let short = c .before .before .before .before .before .before .before .before .before .before .before .before .before .before .before .before .before .before .before .before .before .before .before .before .before .before .before .before .before .before .before .before .before .before .before .pre .1 in
     λ q h small room.
-    let same = looked-up (q .names) (a .n) 256 (a .cells .now) (a .tokens .now) (a .spelled .now) _ (c .before .before .before .before .before .before .before .before .before .before .before .before .before .before .before .before .before .before .before .before .before .before .before .look-up .ensures .0 (q .names) _ (h .its-names .named)) short in
+    let same = looked-up (q .names) (a .n) mostCells (a .cells .now) (a .tokens .now) (a .spelled .now) _ (c .before .before .before .before .before .before .before .before .before .before .before .before .before .before .before .before .before .before .before .before .before .before .before .look-up .ensures .0 (q .names) _ (h .its-names .named)) short in
     by-tokens q (a .k) (a .n) (a .cells .now) (a .tokens .now) (a .spelled .now) _ short same
     (c .before .before .before .before .before .before .before .before .before .before .dispatch .ensures _ (c .before .before .before .before .before .before .before .before .before .before .before .before .before .before .before .before .before .before .before .form-of .ensures .0 ∙ form-fit _ _ _ short short) (few-names-told q (a .k) (a .n) (a .cells .now) (a .tokens .now) (a .spelled .now) _ short same) q h small room)
 

@@ -18,5 +18,4 @@ returns-4 : tie.Need-returns-4
 returns-4 c = let a = c .before .before .before .args in whole-table (a .size) (a .count + a .many) (a .s) (c .before .before .if1 .left) (c .if3 .left)
 
 pub is-fit-spec : {M : Type 1} → statement M
-is-fit-spec =
-    tie.close (tie.spec (λ c. search needs) returns (λ c. search needs) returns-2 (λ c. search needs) (λ c. search needs) returns-3 returns-4)
+is-fit-spec = tie.close (tie.spec returns returns-2 (λ c. search needs) returns-3 returns-4)

@@ -5,7 +5,7 @@ use native.Mathlib.Nat.{sub-zero}
 use lib.ListN.{getD}
 use Rattle.base.specs.Places.{each}
 use Rattle.source.specs.Program.{numberAt}
-use Rattle.labels.specs.Memory.{spotIn, labelIn, labelsOf}
+use Rattle.labels.specs.Memory.{spotNumbers, spotIn, labelIn, labelsOf}
 use Rattle.labels.specs.Answers.{foundOf}
 use Rattle.labels.proofs.Finding.{found-here, found-turn, found-over}
 use Rattle.labels.proofs.number_of.Statement.{statement}
@@ -24,15 +24,15 @@ loop-holds c = rw (sub-zero (c .before .args .count)) refl
 returns : tie.Need-returns Inv-loop μ-loop
 returns c =
     let e = c .before .before .word-at .ensures in
-    let z : c .before .before .word-at .result / 4096 ≡ c .before .before .before .before .before .before .args .l = c .before .if1 .taken in
-    found-here (λ j. getD (c .before .before .before .before .before .before .args .labels .now) j 0) _ _ _ _ (c .before .before .before .loop-test .taken) (ap (λ n. n / 4096) (sym e) ∙ z) _ (c .number-at .ensures ∙ ap (λ k. numberAt (c .before .before .before .before .before .before .args .next) (spotIn (c .before .before .before .before .before .before .args .next) (k % 4096))) e) ∙ c .before .before .before .before .loop .inv
+    let z : c .before .before .word-at .result / spotNumbers ≡ c .before .before .before .before .before .before .args .l = c .before .if1 .taken in
+    found-here (λ j. getD (c .before .before .before .before .before .before .args .labels .now) j 0) _ _ _ _ (c .before .before .before .loop-test .taken) (ap (λ n. n / spotNumbers) (sym e) ∙ z) _ (c .number-at .ensures ∙ ap (λ k. numberAt (c .before .before .before .before .before .before .args .next) (spotIn (c .before .before .before .before .before .before .args .next) (k % spotNumbers))) e) ∙ c .before .before .before .before .loop .inv
 
 loop-less : tie.Need-loop-less Inv-loop μ-loop
 loop-less c = omega arith
 
 loop-again : tie.Need-loop-again Inv-loop μ-loop
 loop-again c =
-    found-turn (λ j. getD (c .before .before .before .before .before .args .labels .now) j 0) _ _ _ _ (c .before .before .loop-test .taken) (λ z. c .if1 .left (ap (λ n. n / 4096) (c .before .word-at .ensures) ∙ z)) ∙ c .before .before .before .loop .inv
+    found-turn (λ j. getD (c .before .before .before .before .before .args .labels .now) j 0) _ _ _ _ (c .before .before .loop-test .taken) (λ z. c .if1 .left (ap (λ n. n / spotNumbers) (c .before .word-at .ensures) ∙ z)) ∙ c .before .before .before .loop .inv
 
 returns-2 : tie.Need-returns-2 Inv-loop μ-loop
 returns-2 c = found-over (λ j. getD (c .before .before .before .args .labels .now) j 0) (c .before .before .before .args .next) (c .before .before .before .args .count) (c .before .loop .i) (c .before .before .before .args .l) (c .loop-test .left) ∙ c .before .loop .inv

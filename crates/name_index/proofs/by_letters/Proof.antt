@@ -3,13 +3,14 @@ use Prim.Native.Nat.{_-_, _≤_, _<_, max}
 use mathlib.Core.Path.{_≡_, ap, _∙_}
 use native.Mathlib.Omega.{arith}
 use lib.ListN.{length}
+use Rattle.source.specs.Limits.{mostCells}
 use Rattle.name_index.specs.Order.{sideOf}
 use Rattle.name_index.proofs.Order.{decidedFrom, decided-start, decided-turn, decided-inside, decided-over, decided-nowhere, decided-here}
 use Rattle.name_index.proofs.by_letters.Statement.{statement}
 use Rattle.name_index.proofs.by_letters.Tie as tie
 
 abbrev Inv-loop : tie.InvT-loop
-Inv-loop a b i₀ last₀ i last = (length a ≡ length b) × (length b < 256) × (i ≤ length a) × (last ≤ i) × (decidedFrom a b i last ≡ sideOf a b)
+Inv-loop a b i₀ last₀ i last = (length a ≡ length b) × (length b < mostCells) × (i ≤ length a) × (last ≤ i) × (decidedFrom a b i last ≡ sideOf a b)
 
 abbrev μ-loop : tie.MeasureT-loop
 μ-loop a b i₀ last₀ i last = length a - i

@@ -1,9 +1,10 @@
 use borrow.Author.Needs.{needs}
 use mathlib.Core.Path.{sym, ap, _∙_}
-use Prim.Native.Nat.{_+_, _/_, _%_, _≤_}
+use Prim.Native.Nat.{_+_, _/_, _≤_}
 use native.Mathlib.Omega.{arith}
+use Rattle.source.specs.Memory.{nameRows}
 use Rattle.name_index.specs.Order.{sideOf}
-use Rattle.name_index.specs.Memory.{nameIn}
+use Rattle.name_index.specs.Memory.{beginIn, numberIn, nameIn}
 use Rattle.name_index.specs.Answers.{sideAt, wordAt}
 use Rattle.name_index.proofs.Order.{short-part}
 use Rattle.name_index.proofs.Search.{GoesOn, search-start, search-here, search-first, search-second, search-over, search-few, word-found}
@@ -20,7 +21,7 @@ loop-holds : tie.Need-loop-holds Inv-loop μ-loop
 loop-holds c = (search needs, search needs, search-start _ _ _)
 
 compare-requires : tie.Need-compare-requires Inv-loop μ-loop
-compare-requires c κs = short-part (c .before .before .before .before .before .before .before .args .letters .now) _ (c .before .word-at .result / 65536) (c .before .word-at .result / 256) (c .part .ensures)
+compare-requires c κs = short-part (c .before .before .before .before .before .before .before .args .letters .now) _ (beginIn (c .before .word-at .result)) (c .before .word-at .result / nameRows) (c .part .ensures)
 
 loop-again : tie.Need-loop-again Inv-loop μ-loop
 loop-again c = let a = c .before .before .before .before .before .before .before .before .before .before .args in
@@ -36,7 +37,7 @@ returns c = let a = c .before .before .before .before .before .before .before .b
     let l = c .before .before .before .before .before .before .loop in
     let t = c .before .before .before .before .before .loop-test .taken in
     let e = sym (c .before .before .compare .ensures ∙ ap (sideOf (a .name .now)) (c .before .before .before .part .ensures ∙ ap (nameIn (a .letters .now)) (c .before .before .before .before .word-at .ensures))) ∙ c .enum-told2 .given .1 in
-    let made = search-here (l .comparisons) (l .inv .2) t _ (ap (λ row. row % 256 + 2) (c .before .before .before .before .word-at .ensures)) e in
+    let made = search-here (l .comparisons) (l .inv .2) t _ (ap (λ row. numberIn row + 2) (c .before .before .before .before .word-at .ensures)) e in
     (made, (search-few made, λ ns filled held. word-found held (a .name .now) made))
 
 loop-again-2 : tie.Need-loop-again-2 Inv-loop μ-loop
@@ -71,6 +72,8 @@ find-spec =
     (λ c. search needs)
     (λ c. search needs)
     loop-again
+    (λ c. search needs)
+    (λ c. search needs)
     (λ c. search needs)
     (λ c. search needs)
     (λ c. search needs)

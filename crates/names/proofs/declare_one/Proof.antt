@@ -1,6 +1,7 @@
 use native.Mathlib.Omega.{arith}
 use Prim.Native.Nat.{_/_}
 use mathlib.Core.Path.{sym, _∙_}
+use Rattle.source.specs.Limits.{mostCells}
 use Rattle.name_index.proofs.Search.{place-found}
 use Rattle.name_index.proofs.Order.{short-part}
 use Rattle.names.proofs.Declarations.{no-name, one-name, none-declared, is-twice, is-added, is-not-added}
@@ -28,14 +29,14 @@ returns-4 : tie.Need-returns-4
 returns-4 c = let a = c .before .before .before .before .before .before .before .before .before .before .before .before .before .before .before .before .before .before .before .before .before .before .args in
     λ ms held.
     let new = sym (other-word ms _ _ (c .before .before .before .before .before .before .before .before .before .before .before .before .before .before .before .before .is-send .ensures) _ (c .before .before .before .before .before .before .before .before .before .before .before .before .before .before .before .if2 .left) (c .before .before .before .before .before .before .before .before .before .before .before .before .find .ensures .1 .1 ms _ held)) ∙ c .before .before .before .before .before .before .before .before .before .before .if3 .left in
-    let added = c .before .before .before .before .before .before .before .add .ensures ms held (place-found held _ (c .before .before .before .before .before .before .before .before .before .before .before .before .find .ensures .0) (c .before .before .before .before .before .before .before .before .before .before .if3 .left)) (short-part (a .cells .now) _ (a .value / 256) (a .value) (c .before .before .before .before .before .before .before .before .before .before .before .before .before .before .before .before .before .part .ensures)) in
+    let added = c .before .before .before .before .before .before .before .add .ensures ms held (place-found held _ (c .before .before .before .before .before .before .before .before .before .before .before .before .find .ensures .0) (c .before .before .before .before .before .before .before .before .before .before .if3 .left)) (short-part (a .cells .now) _ (a .value / mostCells) (a .value) (c .before .before .before .before .before .before .before .before .before .before .before .before .before .before .before .before .before .part .ensures)) in
     rw (one-name (a .cells .now) (a .kind) (a .value) _ (c .before .before .before .before .before .before .before .before .before .before .before .before .before .before .before .before .before .part .ensures) (c .before .before .before .before .before .before .before .before .before .before .before .before .before .before .before .before .before .before .if1 .left)) (is-added ms _ new _ added _ _ (c .before .c .given .1))
 
 returns-5 : tie.Need-returns-5
 returns-5 c = let a = c .before .before .before .before .before .before .before .before .before .before .before .before .before .before .before .before .before .before .before .before .before .args in
     λ ms held.
     let new = sym (other-word ms _ _ (c .before .before .before .before .before .before .before .before .before .before .before .before .before .before .before .is-send .ensures) _ (c .before .before .before .before .before .before .before .before .before .before .before .before .before .before .if2 .left) (c .before .before .before .before .before .before .before .before .before .before .before .find .ensures .1 .1 ms _ held)) ∙ c .before .before .before .before .before .before .before .before .before .if3 .left in
-    let added = c .before .before .before .before .before .before .add .ensures ms held (place-found held _ (c .before .before .before .before .before .before .before .before .before .before .before .find .ensures .0) (c .before .before .before .before .before .before .before .before .before .if3 .left)) (short-part (a .cells .now) _ (a .value / 256) (a .value) (c .before .before .before .before .before .before .before .before .before .before .before .before .before .before .before .before .part .ensures)) in
+    let added = c .before .before .before .before .before .before .add .ensures ms held (place-found held _ (c .before .before .before .before .before .before .before .before .before .before .before .find .ensures .0) (c .before .before .before .before .before .before .before .before .before .if3 .left)) (short-part (a .cells .now) _ (a .value / mostCells) (a .value) (c .before .before .before .before .before .before .before .before .before .before .before .before .before .before .before .before .part .ensures)) in
     rw (one-name (a .cells .now) (a .kind) (a .value) _ (c .before .before .before .before .before .before .before .before .before .before .before .before .before .before .before .before .part .ensures) (c .before .before .before .before .before .before .before .before .before .before .before .before .before .before .before .before .before .if1 .left)) (is-not-added ms _ new _ added (c .enum-told .given .1))
 
 pub declare-one-spec : {M : Type 1} → statement M

@@ -3,6 +3,7 @@ use mathlib.Core.Path.{_≡_, refl, _∙_}
 use mathlib.Core.List.{_++_}
 use native.Mathlib.Omega.{arith}
 use lib.ListN.{length, drop, length-set}
+use Rattle.order.specs.Limits.{mostWords}
 use Rattle.skimp_state.specs.State.{wordsAt}
 use Rattle.skimp_state.proofs.Bytes.{load-turn, load-over}
 use Rattle.skimp_state.proofs.load_words.Statement.{statement}
@@ -10,7 +11,7 @@ use Rattle.skimp_state.proofs.load_words.Tie as tie
 
 abbrev Inv-loop : tie.InvT-loop
 Inv-loop s words₀ i₀ words i =
-    (words ≡ wordsAt i 20 s ++ drop i words₀) × (i ≤ length words₀) × (length words ≡ length words₀) × (length words₀ ≤ 98)
+    (words ≡ wordsAt i 20 s ++ drop i words₀) × (i ≤ length words₀) × (length words ≡ length words₀) × (length words₀ ≤ mostWords)
 
 abbrev μ-loop : tie.MeasureT-loop
 μ-loop s words₀ i₀ words i = length words - i

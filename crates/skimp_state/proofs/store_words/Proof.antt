@@ -3,13 +3,14 @@ use mathlib.Core.Path.{_≡_, refl}
 use native.Mathlib.Omega.{arith}
 use lib.ListN.{length, take}
 use lib.Seq.{sets}
+use Rattle.order.specs.Limits.{mostWords}
 use Rattle.skimp_state.specs.State.{wordsBytes}
 use Rattle.skimp_state.proofs.Bytes.{store-turn, store-over, stored-length}
 use Rattle.skimp_state.proofs.store_words.Statement.{statement}
 use Rattle.skimp_state.proofs.store_words.Tie as tie
 
 abbrev Inv-loop : tie.InvT-loop
-Inv-loop s₀ words i₀ s i = (s ≡ sets s₀ 20 (wordsBytes (take i words))) × (i ≤ length words) × (length words ≤ 98)
+Inv-loop s₀ words i₀ s i = (s ≡ sets s₀ 20 (wordsBytes (take i words))) × (i ≤ length words) × (length words ≤ mostWords)
 
 abbrev μ-loop : tie.MeasureT-loop
 μ-loop s₀ words i₀ s i = length words - i

@@ -4,13 +4,13 @@ use mathlib.Core.Path.{_≡_, refl, _∙_}
 use native.Mathlib.Omega.{arith}
 use lib.ListN.{length, drop}
 use Rattle.base.proofs.Cases.{cases}
-use Rattle.text.specs.Pieces.{digits}
+use Rattle.text.specs.Pieces.{digits, greatestNumber}
 use Rattle.text.proofs.Turns.{digits-here, digits-short}
 use Rattle.text.proofs.read.digits_at.Statement.{statement}
 use Rattle.text.proofs.read.digits_at.Tie as tie
 
 abbrev Inv-loop : tie.InvT-loop
-Inv-loop s at close first i₀ v₀ i v = (digits close v (drop i s) ≡ digits close first (drop at s)) × (v ≤ 2147483647)
+Inv-loop s at close first i₀ v₀ i v = (digits close v (drop i s) ≡ digits close first (drop at s)) × (v ≤ greatestNumber)
 
 abbrev μ-loop : tie.MeasureT-loop
 μ-loop s at close first i₀ v₀ i v = length s - i
