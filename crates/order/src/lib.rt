@@ -3,11 +3,11 @@
 use word::Relation;
 
 // The limits of specs/Limits.antt.
-pub const MOST_VARIABLES: u32 = 64;
+pub const MOST_VARIABLES: u32 = 128;
 
 pub const MOST_TEMPORARIES: u32 = 32;
 
-pub const MOST_ORDERS: u32 = 1024;
+pub const MOST_ORDERS: u32 = 2048;
 
 // An operation on the accumulator and an operand.
 pub enum Operation {
