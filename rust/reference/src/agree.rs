@@ -1,7 +1,8 @@
 //! A call that reads one text and writes another, held to the rules. The archive makes such calls,
 //! and so does the reference itself, or a copy of it with a mistake.
 
-use crate::{object_text, sheet_text, Refusal, Reply};
+use crate::limits::MOST_ORDERS;
+use crate::{object, object_text, sheet_text, Refusal, Reply};
 use std::collections::{BTreeMap, BTreeSet};
 
 /// Reads a text and writes another to the front of the buffer, as `skimp_compile` and
@@ -43,14 +44,15 @@ impl Rules {
 pub const COMPILE: Rules = Rules {
     text: object_text,
     too_short: 12,
-    most: 18_469,
+    most: object::MOST_TEXT,
     behind: b"\n%ENDOFPROGRAM\n\0",
 };
 
 pub const READ_BACK: Rules = Rules {
     text: sheet_text,
     too_short: 32,
-    most: 32_768,
+    // no order brings more bytes than this, and STOP's are left for the first line
+    most: 32 * MOST_ORDERS,
     behind: b"STOP\t-\t0\n\0",
 };
 

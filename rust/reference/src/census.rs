@@ -20,7 +20,7 @@ pub struct Census {
     targets: [usize; 4],
     /// GOTO within a part, into one, out of one, and out of one into another.
     ways: [usize; 4],
-    /// For each T and V, for each number of instructions up to 1,023, and for each depth.
+    /// For each T and V, for each number of instructions, and for each depth.
     temporaries: Vec<usize>,
     variables: Vec<usize>,
     instructions: Vec<usize>,

@@ -1,7 +1,7 @@
 //! Random sheets, of exactly so many orders.
 
+use crate::limits::{MOST_LEVELS, MOST_NUMBER, MOST_ORDERS, MOST_TEMPORARIES, MOST_VARIABLES};
 use crate::object::{Order, STOP};
-use crate::object::{MOST_LEVELS, MOST_NUMBER, MOST_ORDERS, MOST_TEMPORARIES, MOST_VARIABLES};
 use crate::random::Random;
 use crate::sheet::{count, Expression, Line, Operator, Relation, Sheet, Sign, Simple};
 use crate::sheet::{OPERATORS, RELATIONS, SIGNS};
@@ -21,6 +21,8 @@ pub struct Plan {
     pub calm: bool,
     /// No GOTO leads back, so that it ends.
     pub forward: bool,
+    /// Its instructions have few orders and its GOTOs few targets, so that a source can have it.
+    pub short: bool,
     /// Its last instructions count up a variable that no other sets, and lead back to the first
     /// until so many rounds are done. They have `LOOP` orders.
     pub rounds: Option<u32>,
@@ -28,6 +30,11 @@ pub struct Plan {
 
 /// The orders of the instructions that make a loop.
 const LOOP: usize = 7;
+/// The most orders of an outermost instruction that is short, with those of its parts.
+const SHORT: usize = 80;
+/// As many targets at most have the GOTOs of a sheet of short instructions, which leaves labels for
+/// others.
+const FEW: u32 = 48;
 
 /// Where an expression has its operands that are not plain.
 #[derive(Clone, Copy)]
@@ -44,7 +51,9 @@ impl Plan {
         let most = MOST_VARIABLES as usize;
         let variables = match random.below(8) {
             0 => random.pick(&[0, 1, most - 1, most]),
-            1 => random.between(0, most),
+            // one below half of the most, at it and one above it
+            1 => random.between(most / 2 - 1, most / 2 + 1),
+            2 => random.between(0, most),
             _ => random.between(1, 5),
         };
         Plan {
@@ -60,6 +69,7 @@ impl Plan {
             deep: random.once_in(5),
             calm: !random.once_in(4),
             forward: random.once_in(2),
+            short: false,
             rounds: random.once_in(3).then(|| random.between(1, 20) as u32),
         }
     }
@@ -70,14 +80,30 @@ impl Plan {
         Plan::random(random).sheet(random, orders)
     }
 
+    /// A sheet of more orders, most of its instructions in many parts.
+    pub fn deep_sheet(random: &mut Random) -> Sheet {
+        let orders = random.between(30, 90);
+        let plan = Plan {
+            deep: true,
+            ..Plan::random(random)
+        };
+        plan.sheet(random, orders)
+    }
+
     /// A sheet of up to the most orders, often of exactly as many.
     pub fn large_sheet(random: &mut Random) -> Sheet {
-        let orders = match random.below(4) {
-            0 => random.between(40, MOST_ORDERS),
-            1 => random.between(MOST_ORDERS - 3, MOST_ORDERS),
-            _ => MOST_ORDERS,
-        };
+        let orders = large_count(random);
         Plan::random(random).sheet(random, orders)
+    }
+
+    /// The same of short instructions.
+    pub fn large_program(random: &mut Random) -> Sheet {
+        let orders = large_count(random);
+        let plan = Plan {
+            short: true,
+            ..Plan::random(random)
+        };
+        plan.sheet(random, orders)
     }
 
     /// A random sheet whose V, T and N are exactly these. T is not 1, since a binary that needs
@@ -121,14 +147,16 @@ impl Plan {
         if plan.rounds.is_some() {
             left -= LOOP;
         }
+        let most = if self.short { SHORT } else { MOST_ORDERS };
         let mut sizes = Vec::new();
         while left > 0 {
+            let largest = left.min(most);
             let size = match random.below(64) {
-                8.. if self.deep => random.between(left.div_ceil(2), left),
+                8.. if self.deep => random.between(largest.div_ceil(2), largest),
                 0..=7 => 1,
                 8..=55 => random.between(2, 14),
                 56..=62 => random.between(2, 60),
-                _ => random.between(2, MOST_ORDERS),
+                _ => random.between(2, most),
             };
             sizes.push(size.min(left));
             left -= size.min(left);
@@ -308,11 +336,15 @@ impl Maker<'_> {
     /// Where the GOTO of a number leads: any instruction, or the end.
     fn target(&mut self, number: u32, end: u32) -> u32 {
         let first = if self.plan.forward { number + 1 } else { 1 };
-        match self.random.below(6) {
+        let target = match self.random.below(6) {
             0 => end,
             1 => first,
             2 => end.min(number + 1),
             _ => self.random.between(first as usize, end as usize) as u32,
+        };
+        match self.plan.short {
+            true => end.min(target.next_multiple_of(end.div_ceil(FEW))),
+            false => target,
         }
     }
 
@@ -412,6 +444,17 @@ impl Maker<'_> {
             1 => self.random.between(2, last) as u32,
             _ => self.random.between(2, last.min(4)) as u32,
         }
+    }
+}
+
+/// How many orders a large sheet has: up to the most, often as many, or about half as many.
+fn large_count(random: &mut Random) -> usize {
+    let half = MOST_ORDERS / 2;
+    match random.below(8) {
+        0 | 1 => random.between(40, MOST_ORDERS),
+        2 => random.between(MOST_ORDERS - 3, MOST_ORDERS),
+        3 | 4 => random.between(half - 1, half + 1),
+        _ => MOST_ORDERS,
     }
 }
 

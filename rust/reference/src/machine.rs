@@ -1,9 +1,12 @@
 //! The state of a run, and what the orders do to it.
 
-use crate::object::{Kind, Name, Object, Order, MOST_ORDERS};
+use crate::limits::{MOST_TEMPORARIES, MOST_VARIABLES};
+use crate::object::{Kind, Name, Object, Order, LINK_WORDS, PADDED};
 
-/// More than the longest frame has. Its length lets an index be masked, as with the orders.
-const MOST_WORDS: usize = 128;
+/// As many words as the longest frame has, or more: a power of two lets an index be masked, as with
+/// the orders.
+const MOST_WORDS: usize =
+    (LINK_WORDS + MOST_VARIABLES + MOST_TEMPORARIES).next_power_of_two() as usize;
 const HEADER: usize = 20;
 
 const ZERO_DIVISOR: u32 = 1;
@@ -57,7 +60,7 @@ impl State {
     }
 
     /// Carries out at most `budget` orders, and gives how many it did.
-    pub fn run(&mut self, orders: &[Order; MOST_ORDERS], output: &mut [u8], budget: u32) -> u32 {
+    pub fn run(&mut self, orders: &[Order; PADDED], output: &mut [u8], budget: u32) -> u32 {
         if self.ending != 0 {
             return 0;
         }
@@ -65,11 +68,11 @@ impl State {
         let mut state = *self;
         let mut left = budget;
         while left > 0 && state.ending == 0 {
-            state.ending = state.step(orders[state.next % MOST_ORDERS], output);
+            state.ending = state.step(orders[state.next % PADDED], output);
             left -= u32::from(matches!(state.ending, 0 | STOPPED));
         }
         if state.ending == 0 {
-            state.ending = state.fault(orders[state.next % MOST_ORDERS], output);
+            state.ending = state.fault(orders[state.next % PADDED], output);
         }
         *self = state;
         budget - left

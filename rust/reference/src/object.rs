@@ -1,19 +1,22 @@
 //! Orders and object text.
 
+use crate::limits::{MOST_NUMBER, MOST_ORDERS, MOST_TEMPORARIES, MOST_VARIABLES};
 use crate::text::put_number;
 use crate::Refusal;
 
-pub const MOST_VARIABLES: u32 = 64;
-pub const MOST_TEMPORARIES: u32 = 32;
-pub const MOST_ORDERS: usize = 1024;
-/// How many IFs may stand in each other.
-pub const MOST_LEVELS: usize = 16;
 /// Words 0 and 1 of the frame are the link words, which no order may name.
 pub const LINK_WORDS: u32 = 2;
-pub const MOST_NUMBER: u32 = 2_147_483_647;
 
+/// The most bytes of a header with its newline: three letters, and three numbers of ten digits, each
+/// behind a tab.
+const MOST_HEADER: usize = 37;
 /// The most bytes of a record with its newline: four letters, a kind, ten digits and two tabs.
 const MOST_RECORD: usize = 18;
+/// No object's text is longer.
+pub const MOST_TEXT: usize = MOST_HEADER + MOST_RECORD * MOST_ORDERS;
+
+/// As many orders as there may be, or more: a power of two.
+pub const PADDED: usize = MOST_ORDERS.next_power_of_two();
 
 const BAD_HEADER: u32 = 21;
 const BAD_LINE: u32 = 22;
@@ -78,7 +81,7 @@ impl Order {
 
 /// The text of an object.
 pub fn text(variables: u32, temporaries: u32, orders: &[Order]) -> Vec<u8> {
-    let mut text = Vec::with_capacity(MOST_RECORD * (orders.len() + 1));
+    let mut text = Vec::with_capacity(MOST_HEADER + MOST_RECORD * orders.len());
     text.extend_from_slice(b"BOX\t");
     put_number(&mut text, variables);
     text.push(b'\t');
@@ -125,8 +128,8 @@ impl Object {
 
     /// The orders, then STOP up to the array's end. Its length lets an index be masked, which costs
     /// less than a test of bounds.
-    pub fn padded(&self) -> [Order; MOST_ORDERS] {
-        let mut padded = [STOP; MOST_ORDERS];
+    pub fn padded(&self) -> [Order; PADDED] {
+        let mut padded = [STOP; PADDED];
         padded[..self.orders.len()].copy_from_slice(&self.orders);
         padded
     }

@@ -11,14 +11,12 @@ mod tables;
 mod tokens;
 
 use crate::compact::Compact;
+use crate::limits::{MOST_CELLS, MOST_SOURCE};
 use crate::sheet::Sheet;
 use crate::Refusal;
 use cells::Statements;
 use program::{Parts, Program};
 use tokens::Token;
-
-/// "Source is 0 to 16,384 bytes."
-pub const MOST_SOURCE: usize = 16_384;
 
 pub const SOURCE_TOO_LONG: u32 = 1;
 pub const BYTE_NOT_ALLOWED: u32 = 2;
@@ -58,8 +56,8 @@ pub fn read_compact(source: &[u8]) -> Result<Compact, Refusal> {
     }
     let mut reader = Reader {
         program: Program::new(),
-        tokens: Vec::with_capacity(cells::MOST_CELLS),
-        nodes: Vec::with_capacity(cells::MOST_CELLS),
+        tokens: Vec::with_capacity(MOST_CELLS),
+        nodes: Vec::with_capacity(MOST_CELLS),
     };
     let mut statements = Statements::new(source);
     let mut number = 0;

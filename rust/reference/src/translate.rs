@@ -1,8 +1,8 @@
 //! The translation of a sheet.
 
 use crate::compact::{Compact, Node, Place};
+use crate::limits::{MOST_LEVELS, MOST_ORDERS, MOST_TEMPORARIES, MOST_VARIABLES};
 use crate::object::{self, Kind, Name, Order, LINK_WORDS, STOP};
-use crate::object::{MOST_LEVELS, MOST_ORDERS, MOST_TEMPORARIES, MOST_VARIABLES};
 use crate::sheet::{depth, Line, Operator, Relation, Sheet, Sign, Simple};
 
 /// What a sheet translates to, or orders that may be such.

@@ -7,8 +7,8 @@
 //! comes out is translated again and must give the same.
 
 use crate::compact::{Compact, Node, Place};
+use crate::limits::{MOST_LEVELS, MOST_NUMBER, MOST_TEMPORARIES};
 use crate::object::{Kind, Name, Order, LINK_WORDS};
-use crate::object::{MOST_LEVELS, MOST_NUMBER, MOST_TEMPORARIES};
 use crate::sheet::{Line, Operator, Relation, Sheet, Sign, Simple};
 use crate::translate::{translate_compact, within_limits, Translation};
 

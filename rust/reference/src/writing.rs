@@ -109,7 +109,7 @@ pub fn spelled_sheet(random: &mut Random) -> (Sheet, Vec<u8>) {
 /// The source of a sheet of many orders. It may be too long.
 fn large_source(random: &mut Random) -> Vec<u8> {
     loop {
-        let sheet = Plan::large_sheet(random);
+        let sheet = Plan::large_program(random);
         if let Some(statements) = program::write(random, &sheet) {
             return Style::random(random).source(random, &statements);
         }

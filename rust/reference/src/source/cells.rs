@@ -1,9 +1,7 @@
 //! From bytes to statements: the cells that each statement holds.
 
 use super::{SOURCE_ENDS_EARLY, TOO_MANY_CELLS};
-
-/// "A statement may hold 256 cells at any moment, its end mark included."
-pub const MOST_CELLS: usize = 256;
+use crate::limits::MOST_CELLS;
 
 /// "Each byte kept is a cell, quotes included." This bit, which no allowed byte has, marks a
 /// keyword letter.

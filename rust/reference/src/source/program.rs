@@ -5,13 +5,11 @@ use super::tables::{Labels, Variables};
 use super::tokens::{Name, Token};
 use super::{refuse, GROUP_MISUSED, LABEL_MISUSED, NAME_MISUSED, NO_SUCH_FORM, OVER_LIMIT};
 use crate::compact::{self, Compact, Place};
-use crate::object::{MOST_LEVELS, MOST_ORDERS, MOST_TEMPORARIES, MOST_VARIABLES};
+use crate::limits::{GREATEST_LABEL, MOST_LABELS, MOST_LEVELS};
+use crate::limits::{MOST_ORDERS, MOST_TEMPORARIES, MOST_VARIABLES};
 use crate::sheet::{self, Line};
 use crate::Refusal;
 
-/// "Labels are decimal, 1 to 9999."
-const MOST_LABEL: u32 = 9999;
-const MOST_LABELS: usize = 64;
 /// A label that leads to this number and a level waits for the end of that level's IF.
 const WAITING: u32 = 1 << 31;
 
@@ -194,7 +192,7 @@ impl Program {
         self.sheet.lines.push(line);
     }
 
-    /// "label 0 or over 9999, set twice"
+    /// "label 0 or over" the greatest, "set twice"
     fn set_labels(&mut self, labels: &[Token], next: u32) -> Result<(), u32> {
         for token in labels {
             let Token::Decimal(label) = *token else {
@@ -227,7 +225,7 @@ impl Program {
             self.orders += count.orders;
             temporaries = temporaries.max(count.temporaries);
         }
-        // "Orders are over at the first statement where those so far and STOP pass 1,024."
+        // "Orders are over at the first statement where those so far and STOP pass" the most
         if self.labels.count() > MOST_LABELS
             || levels > MOST_LEVELS
             || temporaries > MOST_TEMPORARIES
@@ -311,5 +309,5 @@ fn is_group(instruction: &Option<Instruction>) -> bool {
 }
 
 fn is_label(number: u32) -> bool {
-    (1..=MOST_LABEL).contains(&number)
+    (1..=GREATEST_LABEL).contains(&number)
 }

@@ -2,7 +2,7 @@
 
 use super::cells::KEYWORD;
 use super::{CONSTANT_INVALID, UNKNOWN_KEYWORD};
-use crate::object::MOST_NUMBER;
+use crate::limits::MOST_NUMBER;
 use crate::sheet::{Operator, Relation};
 
 #[derive(Clone, Copy, Debug, PartialEq, Eq)]

@@ -1,9 +1,9 @@
 //! Sources at a limit, one below it or a little above it, with other refusals next to it.
 
 use super::spelled_sheet;
+use crate::limits::{GREATEST_LABEL, MOST_CELLS, MOST_LABELS, MOST_LEVELS};
+use crate::limits::{MOST_ORDERS, MOST_SOURCE, MOST_TEMPORARIES, MOST_VARIABLES};
 use crate::random::Random;
-use crate::source::cells::MOST_CELLS;
-use crate::source::MOST_SOURCE;
 
 type Maker = fn(&mut Random) -> Vec<u8>;
 
@@ -121,17 +121,26 @@ fn cells_at_the_end(random: &mut Random) -> Vec<u8> {
     [before, &statement, end].concat().into_bytes()
 }
 
-/// Different names of two letters.
-fn short_names(first: usize, count: usize) -> Vec<String> {
+/// A name of one letter for each of the first 26 numbers, and of two letters for those behind them.
+/// As many as 91 fit into one statement.
+fn short_name(number: usize) -> String {
     let letter = |number: usize| char::from(b'A' + number as u8);
-    let name = |number| format!("{}{}", letter(number / 26), letter(number % 26));
-    (first..first + count).map(name).collect()
+    match number.checked_sub(26) {
+        None => letter(number).to_string(),
+        Some(rest) => format!("{}{}", letter(rest / 26), letter(rest % 26)),
+    }
 }
 
-/// About the most variables in one list or several, maybe with a name that is refused.
+/// About the most variables, half of them or many more, in one list or several, maybe with a name
+/// that is refused.
 fn variables(random: &mut Random) -> Vec<u8> {
-    let count = around(random, 64);
-    let mut names = short_names(0, count);
+    let most = MOST_VARIABLES as usize;
+    let count = match random.below(6) {
+        0 => around(random, most / 2),
+        1 => random.between(most, most + 91),
+        _ => around(random, most),
+    };
+    let mut names: Vec<String> = (0..count).map(short_name).collect();
     match random.below(6) {
         0 => names.push("SEND".to_string()),
         1 => names.push(names[random.below(count)].clone()),
@@ -142,13 +151,20 @@ fn variables(random: &mut Random) -> Vec<u8> {
         3 => names.push(String::new()),
         _ => {}
     }
-    let longest = random.pick(&[1, 16, 32, 63, 64, 65, 70]);
+    let longest = random.pick(&[1, 16, 32, 63, 64, 65, 70, 91]);
     let mut source = String::from("%BEGIN\n");
     for list in names.chunks(longest) {
         source += &format!("%INTEGER {}\n", list.join(","));
     }
-    let used = random.pick(&["AA=BA", "CL=AA", "CM=CL", "CN=1", "->1", "%INTEGER AA"]);
-    (source + used + "\n%ENDOFPROGRAM\n").into_bytes()
+    let used = match random.below(5) {
+        0 => "->1".to_string(),
+        1 => "%INTEGER A".to_string(),
+        // the last that is declared, and the one behind it
+        2 => format!("{}={}", short_name(count - 1), short_name(0)),
+        3 => format!("{}=1", short_name(count)),
+        _ => format!("{}={}", short_name(most - 1), short_name(most / 2)),
+    };
+    (source + &used + "\n%ENDOFPROGRAM\n").into_bytes()
 }
 
 /// What may stand behind the last labels.
@@ -169,7 +185,7 @@ const LAST: [&str; 12] = [
 
 /// About the most set labels in one statement or several, maybe with one that is refused.
 fn labels(random: &mut Random) -> Vec<u8> {
-    let count = around(random, 64) as u32;
+    let count = around(random, MOST_LABELS) as u32;
     let first = random.pick(&[1, 36, 900]);
     let mut labels: Vec<u32> = (first..first + count).collect();
     match random.below(6) {
@@ -178,7 +194,7 @@ fn labels(random: &mut Random) -> Vec<u8> {
             let place = random.below(labels.len());
             labels.insert(place, random.pick(&labels));
         }
-        2 => labels.push(random.pick(&[0, 10000])),
+        2 => labels.push(random.pick(&[0, GREATEST_LABEL + 1])),
         _ => {}
     }
     let longest = random.pick(&[1, 8, 62, 64, 70]);
@@ -215,7 +231,7 @@ fn nested(random: &mut Random, temporaries: usize) -> String {
 
 /// Instructions of about the most temporaries.
 fn temporaries(random: &mut Random) -> Vec<u8> {
-    let count = around(random, 32);
+    let count = around(random, MOST_TEMPORARIES as usize);
     let value = nested(random, count);
     let forms = [
         "A=$",
@@ -241,10 +257,11 @@ fn temporaries(random: &mut Random) -> Vec<u8> {
     format!("%BEGIN\n%INTEGER A\n{before}{statement}\n{after}\n%ENDOFPROGRAM").into_bytes()
 }
 
-/// Instructions of about the most orders.
+/// Instructions of about the most orders, or half of them.
 fn orders(random: &mut Random) -> Vec<u8> {
+    let limit = random.pick(&[MOST_ORDERS, MOST_ORDERS, MOST_ORDERS / 2]);
     // without STOP
-    let count = random.between(1021, 1025);
+    let count = random.between(limit - 3, limit + 1);
     let mut source = String::from("%BEGIN\n%INTEGER A\n1:\n");
     let mut left = count;
     while left > 0 {
@@ -297,7 +314,7 @@ fn instruction(random: &mut Random, orders: usize) -> String {
 
 /// IFs in each other, of about as many levels as there may be, maybe with another refusal.
 fn levels(random: &mut Random) -> Vec<u8> {
-    let count = around(random, 16);
+    let count = around(random, MOST_LEVELS);
     let mut source = String::from("%BEGIN\n%INTEGER A\n");
     let mut in_second = vec![false; count];
     for second in &mut in_second {
@@ -380,14 +397,14 @@ fn open_groups(random: &mut Random) -> Vec<u8> {
 /// Hundreds of statements, most of them jumps of one order each, up to about the most orders.
 fn many(random: &mut Random) -> Vec<u8> {
     let count = match random.below(2) {
-        0 => random.between(200, 1000),
-        _ => random.between(1020, 1024),
+        0 => random.between(200, MOST_ORDERS),
+        _ => random.between(MOST_ORDERS - 4, MOST_ORDERS),
     };
-    let mut labels: Vec<usize> = (1..=random.between(1, 64)).collect();
+    let mut labels: Vec<usize> = (1..=random.between(1, MOST_LABELS)).collect();
     let most = labels.len();
     let mut source = String::from("%BEGIN\n");
     // now and then none is set before the end
-    let early = random.pick(&[count / 64, count / 64, count]);
+    let early = random.pick(&[count / MOST_LABELS, count / MOST_LABELS, count]);
     for _ in 0..count {
         if random.once_in(early) {
             let label = labels.pop().map(|label| format!("{label}:"));

@@ -2,7 +2,8 @@
 
 use super::spelling::length;
 use super::token::Token;
-use crate::object::{LINK_WORDS, MOST_VARIABLES};
+use crate::limits::{GREATEST_LABEL, MOST_CELLS, MOST_LABELS, MOST_VARIABLES};
+use crate::object::LINK_WORDS;
 use crate::random::Random;
 use crate::sheet::{closings, Expression, Line, Operator, Relation, Sheet, Sign, Simple};
 use crate::sheet::{OPERATORS, RELATIONS};
@@ -10,10 +11,6 @@ use std::collections::BTreeSet;
 
 /// The tokens of each statement.
 pub type Statements = Vec<Vec<Token>>;
-
-/// The cells of a statement without its end mark.
-const MOST_CELLS: usize = 255;
-const MOST_LABELS: usize = 64;
 
 /// The tokens of a program whose sheet this is. There is none where it needs too many labels or a
 /// statement is too long.
@@ -39,7 +36,8 @@ pub fn write(random: &mut Random, sheet: &Sheet) -> Option<Statements> {
     writer.put_labelled(sheet.count() as usize);
     let mut statements = writer.statements;
     statements.push(vec![Token::Keyword("ENDOFPROGRAM")]);
-    let fits = |statement: &Vec<Token>| length(statement) <= MOST_CELLS;
+    // the end mark is a cell, too
+    let fits = |statement: &Vec<Token>| length(statement) < MOST_CELLS;
     statements.iter().all(fits).then_some(statements)
 }
 
@@ -104,11 +102,12 @@ fn labels(random: &mut Random, sheet: &Sheet) -> Option<Vec<Vec<u32>>> {
         1..=3 => random.below(spare.min(8) + 1),
         _ => 0,
     };
+    let greatest = GREATEST_LABEL as usize;
     let mut taken = BTreeSet::new();
     let mut fresh = |random: &mut Random| loop {
         let label = match random.below(4) {
-            0 => random.between(1, 9999),
-            1 => random.pick(&[1, 9, 10, 99, 100, 999, 1000, 9999]),
+            0 => random.between(1, greatest),
+            1 => random.pick(&[1, 9, 10, 99, 100, 999, 1000, greatest]),
             _ => random.between(1, 99),
         };
         if taken.insert(label) {

@@ -4,6 +4,7 @@ use super::characters::packed;
 use super::program::Statements;
 use super::spelling::Style;
 use super::token::{Token, KEYWORDS, SYMBOLS};
+use crate::limits::{GREATEST_LABEL, MOST_NUMBER};
 use crate::random::Random;
 
 /// A source of random tokens, mostly between the statements that a program has first and last.
@@ -237,8 +238,8 @@ pub fn symbol(random: &mut Random) -> Token {
 /// A label's number, sometimes one that no label has.
 pub fn label(random: &mut Random) -> u32 {
     match random.below(12) {
-        0 => random.pick(&[0, 10000, 2147483647, 2147483648]),
-        1 => random.pick(&[9999, 999, 1000]),
+        0 => random.pick(&[0, GREATEST_LABEL + 1, MOST_NUMBER, MOST_NUMBER + 1]),
+        1 => random.pick(&[GREATEST_LABEL, 999, 1000]),
         _ => random.between(1, 3) as u32,
     }
 }

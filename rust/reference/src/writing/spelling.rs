@@ -1,8 +1,8 @@
 //! Tokens as bytes: the ways in which a statement may be spelled.
 
 use super::token::Token;
+use crate::limits::MOST_CELLS;
 use crate::random::Random;
-use crate::source::cells::MOST_CELLS;
 
 /// A byte that a statement keeps, and whether `%` marks it as a keyword letter.
 #[derive(Clone, Copy)]
@@ -160,7 +160,8 @@ impl Speller<'_> {
 
 /// The cells of tokens, with zeros before some decimal constants if there is room.
 pub fn cells(random: &mut Random, tokens: &[Token]) -> Vec<Cell> {
-    let mut room = 255_usize.saturating_sub(length(tokens));
+    // without the end mark
+    let mut room = (MOST_CELLS - 1).saturating_sub(length(tokens));
     let mut cells = Vec::new();
     for token in tokens {
         if matches!(token, Token::Decimal(_)) && random.once_in(16) {

@@ -12,8 +12,9 @@ fn meaning() {
     let mut random = Random(14);
     let (mut census, mut runs) = (Census::default(), Runs::default());
     for round in 0..6000 {
-        let sheet = match round % 8 {
+        let sheet = match round % 16 {
             0 => Plan::large_sheet(&mut random),
+            1 => Plan::deep_sheet(&mut random),
             _ => Plan::small_sheet(&mut random),
         };
         let translation = translate(&sheet).expect("within the limits");

@@ -64,10 +64,19 @@ fn large_sheets() {
         assert!(count >= 2, "{count} sheets with {temporaries}");
     }
     assert_eq!(census.with_temporaries(1), 0);
-    for variables in [0, 1, 63, 64] {
+    for variables in [0, 1, 63, 64, 65, 127, 128] {
         assert!(census.with_variables(variables) >= 10, "V {variables}");
     }
-    assert!(census.with_orders(1024) >= 1000);
+    for (orders, least) in [
+        (1023, 100),
+        (1024, 100),
+        (1025, 100),
+        (2047, 50),
+        (2048, 700),
+    ] {
+        let count = census.with_orders(orders);
+        assert!(count >= least, "{count} sheets with {orders} orders");
+    }
 }
 
 /// Sheets at the limits, and past one of them by one.
@@ -76,19 +85,28 @@ fn limits() {
     let mut random = Random(13);
     let mut census = Census::default();
     for one in [false, true] {
-        for _ in 0..50 {
-            let size = [64, 32, 1024];
-            check(&mut census, &Plan::exact_sheet(&mut random, size, one));
-            for over in [[65, 32, 1024], [64, 33, 1024], [64, 32, 1025]] {
+        for _ in 0..25 {
+            for size in [
+                [128, 32, 2048],
+                // one below each, and where no limit is
+                [127, 32, 2048],
+                [128, 31, 2048],
+                [128, 32, 2047],
+                [65, 32, 1025],
+                [64, 32, 1024],
+            ] {
+                check(&mut census, &Plan::exact_sheet(&mut random, size, one));
+            }
+            for over in [[129, 32, 2048], [128, 33, 2048], [128, 32, 2049]] {
                 let sheet = Plan::exact_sheet(&mut random, over, one);
                 assert!(translate(&sheet).is_none(), "{over:?}:\n{}", sheet.text());
                 assert!(untranslate(&without_limits(&sheet)).is_none(), "{over:?}");
             }
         }
     }
-    assert_eq!(census.with_orders(1024), 100);
-    assert_eq!(census.with_temporaries(32), 100);
-    assert_eq!(census.with_variables(64), 100);
+    assert_eq!(census.with_orders(2048), 150);
+    assert_eq!(census.with_temporaries(32), 250);
+    assert_eq!(census.with_variables(128), 150);
     assert!(census.with_instructions(1) >= 5);
 }
 

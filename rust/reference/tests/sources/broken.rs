@@ -208,7 +208,11 @@ fn refusing(source: &[u8], buffer: &mut [u8], test: fn(&Translation) -> bool) ->
 }
 
 fn too_few_variables(source: &[u8], buffer: &mut [u8]) -> Reply {
-    refusing(source, buffer, |translation| translation.variables == 64)
+    refusing(source, buffer, |translation| translation.variables == 128)
+}
+
+fn half_the_variables(source: &[u8], buffer: &mut [u8]) -> Reply {
+    refusing(source, buffer, |translation| translation.variables == 65)
 }
 
 fn too_few_temporaries(source: &[u8], buffer: &mut [u8]) -> Reply {
@@ -217,7 +221,13 @@ fn too_few_temporaries(source: &[u8], buffer: &mut [u8]) -> Reply {
 
 fn too_few_orders(source: &[u8], buffer: &mut [u8]) -> Reply {
     refusing(source, buffer, |translation| {
-        translation.orders.len() == 1024
+        translation.orders.len() == 2048
+    })
+}
+
+fn half_the_orders(source: &[u8], buffer: &mut [u8]) -> Reply {
+    refusing(source, buffer, |translation| {
+        translation.orders.len() == 1025
     })
 }
 
@@ -233,9 +243,11 @@ fn too_short_source(source: &[u8], buffer: &mut [u8]) -> Reply {
 
 #[test]
 fn wrong_limits() {
-    found("64 variables", too_few_variables);
+    found("128 variables", too_few_variables);
+    found("65 variables", half_the_variables);
     found("32 temporaries", too_few_temporaries);
-    found("1,024 orders", too_few_orders);
+    found("2,048 orders", too_few_orders);
+    found("1,025 orders", half_the_orders);
     found("16,384 bytes", too_short_source);
 }
 

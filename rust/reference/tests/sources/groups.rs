@@ -259,20 +259,27 @@ fn levels() {
 fn orders() {
     let sends = |count| "SEND(1)\n".repeat(count);
     let group = "%IF 1=1 %THEN %START\n1:->1\n%FINISH\n";
+    // half as many as there may be
+    for count in 508..=512 {
+        let accepted = format!("SHEET 1 {}", count + 2);
+        assert_eq!(reply(&(sends(count) + group)), accepted);
+    }
     // three orders, one, and none
-    assert_eq!(reply(&(sends(509) + group)), "SHEET 1 511");
-    assert_eq!(reply(&(sends(510) + group)), "11 at 514");
+    assert_eq!(reply(&(sends(1021) + group)), "SHEET 1 1023");
+    assert_eq!(reply(&(sends(1022) + group)), "11 at 1026");
     assert_eq!(
-        reply(&(sends(510) + &open(1) + "1:->1\n%FINISH\n")),
-        "11 at 514"
+        reply(&(sends(1022) + &open(1) + "1:->1\n%FINISH\n")),
+        "11 at 1026"
     );
-    assert_eq!(reply(&(sends(511) + &open(1) + "->0\n")), "11 at 514");
+    assert_eq!(reply(&(sends(1023) + &open(1) + "->0\n")), "11 at 1026");
     // the SKIP, then the second part
     let both = "%IF 1=1 %THEN %START\n1:->1\n%FINISH %ELSE %START\n->1\n%FINISH\n";
-    assert_eq!(reply(&(sends(508) + both)), "SHEET 1 511");
-    assert_eq!(reply(&(sends(508) + "2:->2\n" + both)), "SHEET 1 512");
-    assert_eq!(reply(&(sends(509) + both)), "11 at 515");
-    assert_eq!(reply(&(sends(508) + "2:->2\n3:->3\n" + both)), "11 at 516");
+    assert_eq!(reply(&(sends(509) + both)), "SHEET 1 512");
+    assert_eq!(reply(&(sends(1020) + both)), "SHEET 1 1023");
+    assert_eq!(reply(&(sends(1020) + "2:->2\n" + both)), "SHEET 1 1024");
+    assert_eq!(reply(&(sends(1021) + both)), "11 at 1027");
+    let jumps = "2:->2\n3:->3\n";
+    assert_eq!(reply(&(sends(1020) + jumps + both)), "11 at 1028");
     // at the SKIP itself
-    assert_eq!(reply(&(sends(509) + "2:->2\n" + both)), "11 at 515");
+    assert_eq!(reply(&(sends(1021) + "2:->2\n" + both)), "11 at 1027");
 }

@@ -77,51 +77,107 @@ fn cells_at_the_end() {
     ]);
 }
 
-/// Names from `V1` on.
+/// A name of one letter for each of the first 26 numbers, and of two letters for those behind them.
+fn name(number: usize) -> String {
+    let letter = |number: usize| char::from(b'A' + number as u8);
+    match number.checked_sub(26) {
+        None => letter(number).to_string(),
+        Some(rest) => format!("{}{}", letter(rest / 26), letter(rest % 26)),
+    }
+}
+
+/// A list of so many names from a number on.
 fn names(first: usize, count: usize) -> String {
-    let names = (first..first + count).map(|number| format!("V{number}"));
+    let names = (first..first + count).map(name);
     names.collect::<Vec<_>>().join(",")
 }
 
+/// So many variables, and the rest of a program. The last list has nearly as many as one statement
+/// takes.
+fn declared(count: usize, rest: &str) -> String {
+    let in_last = count.min(89);
+    // those of one letter are in the last list
+    let mut lists: Vec<String> = (in_last..count)
+        .map(|number| format!("%INTEGER {}", name(number)))
+        .collect();
+    lists.push(format!("%INTEGER {}{rest}", names(0, in_last)));
+    begin(&format!("{};%ENDOFPROGRAM", lists.join(";")))
+}
+
+/// A limit that is raised moves the refusal: nothing happens at half of it.
 #[test]
 fn most_variables() {
-    let end = ";%ENDOFPROGRAM";
-    // 65 names of two letters fit one statement
-    let list = |count: usize| {
-        let letters = |number: usize| {
-            let (first, second) = (b'A' + (number / 26) as u8, b'A' + (number % 26) as u8);
-            format!("{}{}", char::from(first), char::from(second))
-        };
-        (0..count).map(letters).collect::<Vec<_>>().join(",")
-    };
-    let once = |names: &str| begin(&format!("%INTEGER {names}{end}"));
     check(&[
-        (&once(&list(63)), "SHEET 63 0"),
-        (&once(&list(64)), "SHEET 64 0"),
-        (&once(&list(65)), "11 at 2"),
-        (&once(&(list(65) + ",AA")), "8 at 2"),
-        (&once(&(list(65) + ",SEND")), "8 at 2"),
-        (&once(&(list(65) + ",")), "7 at 2"),
-        (&once(&(list(64) + ",AA")), "8 at 2"),
+        (&declared(63, ""), "SHEET 63 0"),
+        (&declared(64, ""), "SHEET 64 0"),
+        (&declared(65, ""), "SHEET 65 0"),
+        (&declared(65, ",A"), "8 at 2"),
+        (&declared(127, ""), "SHEET 127 0"),
+        (&declared(128, ""), "SHEET 128 0"),
+        (&declared(128, ";CK=Z"), "SHEET 128 1; SET 129 W66"),
+        // 39 lists of one name stand before
+        (&declared(128, ",A"), "8 at 41"),
+        (&declared(128, ",SEND"), "8 at 41"),
+        (&declared(129, ""), "11 at 42"),
+        (&declared(129, ",A"), "8 at 42"),
+        (&declared(129, ",CN"), "8 at 42"),
+        (&declared(129, ",SEND"), "8 at 42"),
+        (&declared(129, ","), "7 at 42"),
+        (&declared(129, ";A=1+"), "11 at 42"),
     ]);
-    let several = |last: &str| {
-        let lists = format!(
-            "{};%INTEGER {};%INTEGER {last}",
-            names(1, 31),
-            names(32, 32)
-        );
-        begin(&format!("%INTEGER {lists}{end}"))
+    // each in a list of its own
+    let single = |count: usize, rest: &str| {
+        let lists = (0..count).map(|number| format!("%INTEGER {};", name(number)));
+        begin(&(lists.collect::<String>() + rest + ";%ENDOFPROGRAM"))
     };
     check(&[
-        (&several("A"), "SHEET 64 0"),
-        (&several("A,B"), "11 at 4"),
-        (&several("A,B,A"), "8 at 4"),
-        (&several("A,B;%INTEGER C,V1"), "11 at 4"),
-        (&several("A;%INTEGER V1"), "8 at 5"),
-        (&several("A;%INTEGER B"), "11 at 5"),
-        (&several("A;V64=1"), "8 at 5"),
-        (&several("A;V63=A"), "SHEET 64 1; SET 64 W65"),
+        (&single(64, "%INTEGER X1"), "SHEET 65 0"),
+        (&single(127, "%INTEGER X1"), "SHEET 128 0"),
+        (&single(127, "%INTEGER X1,X2"), "11 at 129"),
+        (&single(127, "%INTEGER X1,X2,X1"), "8 at 129"),
+        (&single(127, "%INTEGER X1,X2,A"), "8 at 129"),
+        (&single(127, "%INTEGER X1,X2;%INTEGER X3,A"), "11 at 129"),
+        (&single(128, "%INTEGER A"), "8 at 130"),
+        (&single(128, "%INTEGER X1"), "11 at 130"),
+        (&single(128, "%INTEGER X1=1"), "7 at 130"),
+        (&single(128, "X1=1"), "8 at 130"),
+        // the last of them is word 129
+        (&single(128, "DX=A"), "SHEET 128 1; SET 129 W2"),
+        (&single(128, "A=DX-DW"), "SHEET 128 1; SET 2 - W129 W128"),
     ]);
+}
+
+/// One statement may name many more than there may be: what is refused before 11 is found behind the
+/// 128th and behind the 200th too.
+#[test]
+fn far_over_the_variables() {
+    let last = |count: usize| begin_with(128, &names(200, count));
+    check(&[
+        (&last(1), "11 at 130"),
+        (&last(83), "11 at 130"),
+        (&(last(80) + ",A"), "8 at 130"),
+        (&(last(80) + ",SEND"), "8 at 130"),
+        (&(last(80) + ","), "7 at 130"),
+        (&(last(83) + ",A"), "4 at 130"),
+        // the first and the last of those before, and of the same statement
+        (&(last(1) + ",DX"), "8 at 130"),
+        (&(last(73) + ",DX"), "8 at 130"),
+        (&(last(73) + "," + &name(200)), "8 at 130"),
+        (&(last(73) + "," + &name(272)), "8 at 130"),
+        (&(last(73) + "," + &name(273)), "11 at 130"),
+        (&begin_with(128, &vec!["X1"; 2].join(",")), "8 at 130"),
+        (&begin_with(128, &vec!["A"; 124].join(",")), "8 at 130"),
+        (&begin_with(0, &vec!["A"; 124].join(",")), "8 at 2"),
+        // as many different ones as a statement takes
+        (&begin_with(0, &names(0, 91)), "10 at 2"),
+        (&begin_with(37, &names(37, 91)), "4 at 39"),
+    ]);
+}
+
+/// So many variables, each in a list of its own, and one list more. There is no end.
+fn begin_with(count: usize, list: &str) -> String {
+    let lists = (0..count).map(|number| format!("%INTEGER {};", name(number)));
+    begin(&(lists.collect::<String>() + "%INTEGER " + list))
 }
 
 #[test]
@@ -206,43 +262,52 @@ fn most_temporaries() {
     accepted(&format!("A={at}\nA={at}"));
 }
 
-/// "Orders are over at the first statement where those so far and STOP pass 1,024."
+/// The first line of what a program is read to that has so many SENDs of two orders each, and other
+/// statements behind them.
+fn with_sends(count: usize, rest: &str) -> String {
+    let sends = "SEND(1)\n".repeat(count);
+    let source = begin(&format!("%INTEGER A\n{sends}{rest}\n%ENDOFPROGRAM"));
+    let line = read_line(source.as_bytes());
+    let start = line.split("; ").next().expect("never empty");
+    start.to_string()
+}
+
+/// "Orders are over at the first statement where those so far and STOP pass" 2,048.
 #[test]
 fn most_orders() {
-    // SEND of a constant has two orders, a jump one
-    let program = |count: usize, rest: &str| {
-        let sends = "SEND(1)\n".repeat(count);
-        let source = begin(&format!("%INTEGER A\n{sends}{rest}\n%ENDOFPROGRAM"));
-        let line = read_line(source.as_bytes());
-        let start = line.split("; ").next().expect("never empty");
-        start.to_string()
-    };
-    assert_eq!(program(511, ""), "SHEET 1 511");
-    assert_eq!(program(511, "1:->1"), "SHEET 1 512");
-    assert_eq!(program(511, "1:->1;2:"), "SHEET 1 512");
-    assert_eq!(program(511, "1:->1;2:->2"), "11 at 515");
-    assert_eq!(program(512, ""), "11 at 514");
-    assert_eq!(program(511, "A=1"), "11 at 514");
-    assert_eq!(program(510, "A=1-1"), "SHEET 1 511");
-    assert_eq!(program(510, "A=1-1-1"), "11 at 513");
-    assert_eq!(program(510, "%IF 1=1 %THEN ->1;1:"), "11 at 513");
-    assert_eq!(program(509, "%IF 1=1 %THEN ->1;1:"), "SHEET 1 511");
-    assert_eq!(program(509, "%IF 1=1 %THEN ->1 %ELSE ->1;1:"), "11 at 512");
+    // 1,023 to 1,025
+    assert_eq!(with_sends(511, ""), "SHEET 1 511");
+    assert_eq!(with_sends(511, "1:->1"), "SHEET 1 512");
+    assert_eq!(with_sends(512, ""), "SHEET 1 512");
+    // 2,047 to 2,049
+    assert_eq!(with_sends(1023, ""), "SHEET 1 1023");
+    assert_eq!(with_sends(1023, "1:->1"), "SHEET 1 1024");
+    assert_eq!(with_sends(1023, "1:->1;2:"), "SHEET 1 1024");
+    assert_eq!(with_sends(1023, "1:->1;2:->2"), "11 at 1027");
+    assert_eq!(with_sends(1024, ""), "11 at 1026");
+    assert_eq!(with_sends(1023, "A=1"), "11 at 1026");
+    assert_eq!(with_sends(1022, "A=1-1"), "SHEET 1 1023");
+    assert_eq!(with_sends(1022, "A=1-1-1"), "11 at 1025");
+    assert_eq!(with_sends(1022, "%IF 1=1 %THEN ->1;1:"), "11 at 1025");
+    assert_eq!(with_sends(1021, "%IF 1=1 %THEN ->1;1:"), "SHEET 1 1023");
+    let both = "%IF 1=1 %THEN ->1 %ELSE ->1;1:";
+    assert_eq!(with_sends(1021, both), "11 at 1024");
+    assert_eq!(with_sends(1020, both), "SHEET 1 1023");
     // other refusals of the statement that passes the limit, and of others
-    assert_eq!(program(511, "A=X"), "8 at 514");
-    assert_eq!(program(511, "0:A=1"), "9 at 514");
-    assert_eq!(program(511, "A=%X"), "5 at 514");
-    assert_eq!(program(511, "A=1;A=X"), "11 at 514");
-    assert_eq!(program(511, "->9;A=1"), "11 at 515");
-    assert_eq!(program(511, "->9"), "9 at 514");
-    assert_eq!(program(510, "->9;->8"), "9 at 513");
-    assert_eq!(program(600, "'"), "11 at 514");
+    assert_eq!(with_sends(1023, "A=X"), "8 at 1026");
+    assert_eq!(with_sends(1023, "0:A=1"), "9 at 1026");
+    assert_eq!(with_sends(1023, "A=%X"), "5 at 1026");
+    assert_eq!(with_sends(1023, "A=1;A=X"), "11 at 1026");
+    assert_eq!(with_sends(1023, "->9;A=1"), "11 at 1027");
+    assert_eq!(with_sends(1023, "->9"), "9 at 1026");
+    assert_eq!(with_sends(1022, "->9;->8"), "9 at 1025");
+    assert_eq!(with_sends(1200, "'"), "11 at 1026");
 }
 
 /// As many statements and instructions as there may be.
 #[test]
 fn most_statements() {
-    let declarations: String = (1..=64)
+    let declarations: String = (1..=128)
         .map(|number| format!("%INTEGER V{number}\n"))
         .collect();
     let labels: String = (1..=64).map(|label| format!("{label}:\n")).collect();
@@ -252,16 +317,63 @@ fn most_statements() {
         read_line(source.as_bytes())
     };
     // the labels stand behind the last instruction
-    let expected = format!("SHEET 64 1023{}", "; GOTO 1024".repeat(1023));
-    assert_eq!(program(1023, "%ENDOFPROGRAM"), expected);
-    assert_eq!(program(1024, "%ENDOFPROGRAM"), "11 at 1089");
-    assert_eq!(program(1023, ""), "10 at 1152");
-    assert_eq!(program(1023, "->1"), "11 at 1153");
-    assert_eq!(program(1023, "->0"), "9 at 1153");
-    assert_eq!(program(1023, "A=1"), "8 at 1153");
-    assert_eq!(program(1023, "%INTEGER A"), "7 at 1153");
-    assert_eq!(program(1023, "''"), "6 at 1153");
-    assert_eq!(program(1023, "%X"), "5 at 1153");
-    assert_eq!(program(1023, "'"), "3 at 1153");
-    assert_eq!(program(1022, "->65;%ENDOFPROGRAM"), "9 at 1152");
+    for count in [1022, 1023, 1024, 2046, 2047] {
+        let jumps = format!("; GOTO {}", count + 1).repeat(count);
+        let expected = format!("SHEET 128 {count}{jumps}");
+        assert_eq!(program(count, "%ENDOFPROGRAM"), expected);
+    }
+    assert_eq!(program(2048, "%ENDOFPROGRAM"), "11 at 2177");
+    assert_eq!(program(2047, ""), "10 at 2240");
+    assert_eq!(program(2047, "->1"), "11 at 2241");
+    assert_eq!(program(2047, "->0"), "9 at 2241");
+    assert_eq!(program(2047, "A=1"), "8 at 2241");
+    assert_eq!(program(2047, "%INTEGER A"), "7 at 2241");
+    assert_eq!(program(2047, "''"), "6 at 2241");
+    assert_eq!(program(2047, "%X"), "5 at 2241");
+    assert_eq!(program(2047, "'"), "3 at 2241");
+    assert_eq!(program(2046, "->65;%ENDOFPROGRAM"), "9 at 2240");
+}
+
+/// A label before any instruction of a long program, and behind its last.
+#[test]
+fn far_labels() {
+    for count in [1023, 1024, 2047] {
+        for number in [1, count / 2, 1023, 1024, count, count + 1] {
+            let (before, behind) = (number - 1, count + 1 - number);
+            let jumps = |count| "->7\n".repeat(count);
+            let source = format!("{}7:\n{}%ENDOFPROGRAM", jumps(before), jumps(behind));
+            let expected = format!("SHEET 0 {count}") + &format!("; GOTO {number}").repeat(count);
+            assert_eq!(read_line(begin(&source).as_bytes()), expected);
+        }
+    }
+}
+
+/// Labels behind the first parts of groups that end a program of 2,047 orders and STOP lead to the
+/// end, over all second parts.
+#[test]
+fn labels_behind_far_groups() {
+    for levels in [1, 2, 16] {
+        // three orders of each condition, a SKIP and a jump in each second part, the innermost jump
+        let before = 2047 - 5 * levels - 1;
+        let open = "%IF 1=1 %THEN %START\n".repeat(levels);
+        let close = |level| format!("{level}:\n%FINISH %ELSE %START\n->1\n%FINISH\n");
+        let closed: String = (1..=levels).map(close).collect();
+        let jumps = "->1\n".repeat(before);
+        let source = format!("{jumps}{open}->{levels}\n{closed}%ENDOFPROGRAM");
+        let count = before + 2 * levels + 1;
+        let goto = format!("GOTO {}", count + 1);
+        let expected = [
+            format!("SHEET 0 {count}"),
+            vec![goto.clone(); before].join("; "),
+            vec!["IF = K1 K1; START"; levels].join("; "),
+            goto.clone(),
+            vec![format!("ELSE; {goto}; FINISH"); levels].join("; "),
+        ];
+        assert_eq!(read_line(begin(&source).as_bytes()), expected.join("; "));
+        let longer = source.replacen("->1", "->1\n->1", 1);
+        let over = read_line(begin(&longer).as_bytes());
+        // the last second part's jump: behind each group's end stand two statements and its own
+        let place = 1 + before + 1 + levels + 1 + 4 * (levels - 1) + 3;
+        assert_eq!(over, format!("11 at {place}"));
+    }
 }

@@ -2,9 +2,10 @@
 
 use skimp_reference::census::Census;
 use skimp_reference::generate::Plan;
+use skimp_reference::limits::MOST_SOURCE;
 use skimp_reference::random::Random;
 use skimp_reference::sheet::Sheet;
-use skimp_reference::source::{read, MOST_SOURCE};
+use skimp_reference::source::read;
 use skimp_reference::translate::translate;
 use skimp_reference::writing::spelling::Style;
 use skimp_reference::writing::{program, spelled_sheet};
@@ -36,7 +37,7 @@ fn spelled_sheets() {
         assert!(count >= 10, "{count} sheets with {depth} levels");
     }
     assert!(census.with_instructions(0) >= 1000);
-    for variables in [0, 1, 63, 64] {
+    for variables in [0, 1, 63, 64, 65, 127, 128] {
         assert!(census.with_variables(variables) >= 1000, "V {variables}");
     }
 }
@@ -46,8 +47,8 @@ fn spelled_sheets() {
 fn large_sheets() {
     let mut random = Random(32);
     let mut census = Census::default();
-    for _ in 0..5000 {
-        let sheet = Plan::large_sheet(&mut random);
+    for _ in 0..2500 {
+        let sheet = Plan::large_program(&mut random);
         let Some(statements) = program::write(&mut random, &sheet) else {
             continue;
         };
@@ -58,5 +59,12 @@ fn large_sheets() {
     }
     println!("{} sheets", census.sheets);
     assert!(census.sheets >= 500, "{} sheets", census.sheets);
-    assert!(census.with_orders(1024) >= 50);
+    for (orders, least) in [(1023, 50), (1024, 50), (1025, 50), (2047, 5), (2048, 100)] {
+        let count = census.with_orders(orders);
+        assert!(count >= least, "{count} sheets with {orders} orders");
+    }
+    for variables in [0, 1, 63, 64, 65, 127, 128] {
+        let count = census.with_variables(variables);
+        assert!(count >= 10, "{count} sheets with V {variables}");
+    }
 }

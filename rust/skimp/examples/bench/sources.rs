@@ -2,8 +2,8 @@
 //! groups, and those found to cost most for a byte or most against the reference.
 
 use skimp_reference::generate::Plan;
+use skimp_reference::limits::MOST_SOURCE;
 use skimp_reference::random::Random;
-use skimp_reference::source::MOST_SOURCE;
 use skimp_reference::writing::program::write;
 use skimp_reference::writing::spelling::Style;
 

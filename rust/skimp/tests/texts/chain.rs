@@ -5,10 +5,10 @@
 use skimp_reference::agree::{Compared, COMPILE, READ_BACK};
 use skimp_reference::census::Census;
 use skimp_reference::generate::Plan;
+use skimp_reference::limits::MOST_SOURCE;
 use skimp_reference::random::Random;
 use skimp_reference::runs::Runs;
 use skimp_reference::sheet::Sheet;
-use skimp_reference::source::MOST_SOURCE;
 use skimp_reference::translate::{translate, Translation};
 use skimp_reference::writing::spelling::Style;
 use skimp_reference::writing::{program, spelled_sheet};

@@ -9,8 +9,8 @@ mod used;
 use std::collections::BTreeMap;
 
 use skimp_reference::agree::{Compared, COMPILE};
+use skimp_reference::limits::MOST_SOURCE;
 use skimp_reference::random::Random;
-use skimp_reference::source::MOST_SOURCE;
 use skimp_reference::writing::spelling::Style;
 use skimp_reference::writing::token::Token;
 

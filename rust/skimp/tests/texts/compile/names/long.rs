@@ -1,7 +1,7 @@
 //! Names that have nearly as many letters together as a source may have bytes. Each source has the
 //! most bytes.
 
-use skimp_reference::source::MOST_SOURCE;
+use skimp_reference::limits::MOST_SOURCE;
 
 use super::alike::{mix, of_length, put_in_order};
 use super::{Tries, MOST_DECLARED, MOST_VARIABLES};
