@@ -15,10 +15,15 @@
 
 #include "skimp.h"
 
-#define FILE_MOST 65536
+/* no source or object that is accepted has so many bytes */
+#define FILE_MOST (SKIMP_SOURCE_MOST + SKIMP_OBJECT_MOST)
 #define OUTPUT_BYTES 64
 /* a program that does not end is left after so many wakes */
 #define WAKES_MOST 1000
+
+/* a number of the header as a text */
+#define TEXT(number) TEXT_OF(number)
+#define TEXT_OF(number) #number
 
 /* Bytes in a block of their own. */
 struct block {
@@ -66,14 +71,16 @@ static const char *refusal(uint32_t number) {
     case SKIMP_SOURCE_TOO_LONG: return "the source is too long, place";
     case SKIMP_BAD_BYTE: return "a byte is not allowed, offset";
     case SKIMP_OPEN_AT_END: return "the source ends in quotes or in a continuation, statement";
-    case SKIMP_TOO_MANY_CELLS: return "more than 256 cells, statement";
+    case SKIMP_TOO_MANY_CELLS: return "more than " TEXT(SKIMP_MOST_CELLS) " cells, statement";
     case SKIMP_UNKNOWN_KEYWORD: return "unknown keyword, statement";
     case SKIMP_BAD_CONSTANT: return "invalid constant, statement";
     case SKIMP_NO_SUCH_FORM: return "no such form, or out of order, statement";
     case SKIMP_BAD_NAME: return "name unknown, declared twice, or SEND misused, statement";
     case SKIMP_BAD_LABEL: return "label out of range, set twice, or never set, statement";
     case SKIMP_NO_END: return "no %ENDOFPROGRAM, statements read";
-    case SKIMP_OVER_LIMIT: return "over 64 variables, 64 labels, 16 levels, 32 temporaries or 1,024 orders, statement";
+    case SKIMP_OVER_LIMIT:
+        return "over " TEXT(SKIMP_MOST_VARIABLES) " variables, " TEXT(SKIMP_MOST_LABELS) " labels, " TEXT(SKIMP_MOST_LEVELS)
+               " levels, " TEXT(SKIMP_MOST_TEMPORARIES) " temporaries or " TEXT(SKIMP_MOST_ORDERS) " orders, statement";
     case SKIMP_OBJECT_TOO_SHORT: return "the buffer is too short for the object, place";
     case SKIMP_BAD_GROUP: return "a group is left open, or %FINISH closes none, statement";
     case SKIMP_BAD_HEADER: return "the header is not of the form or over a limit, place";
@@ -148,10 +155,10 @@ static size_t state_bytes(struct block object) {
     unsigned variables, temporaries;
     if (!is_object(object)) return 0;
     at = object.bytes + 4;
-    variables = field(&at, end, 64);
-    if (variables > 64) return 0;
-    temporaries = field(&at, end, 32);
-    if (temporaries > 32) return 0;
+    variables = field(&at, end, SKIMP_MOST_VARIABLES);
+    if (variables > SKIMP_MOST_VARIABLES) return 0;
+    temporaries = field(&at, end, SKIMP_MOST_TEMPORARIES);
+    if (temporaries > SKIMP_MOST_TEMPORARIES) return 0;
     return SKIMP_STATE_BYTES(variables, temporaries);
 }
 

@@ -15,6 +15,21 @@
 extern "C" {
 #endif
 
+/* The limits. A source over one of them is refused, and so is an object over one of the first three, with 21. */
+#define SKIMP_MOST_VARIABLES 128
+#define SKIMP_MOST_TEMPORARIES 32
+/* STOP included */
+#define SKIMP_MOST_ORDERS 2048
+/* labels that are set, and the greatest number that one may have */
+#define SKIMP_MOST_LABELS 64
+#define SKIMP_GREATEST_LABEL 9999
+/* IFs in each other, of a sheet too */
+#define SKIMP_MOST_LEVELS 16
+/* cells of a statement, its end mark included */
+#define SKIMP_MOST_CELLS 256
+/* bytes of a source */
+#define SKIMP_SOURCE_MOST 16384
+
 /* A result is number * 2^32 + value. */
 #define SKIMP_NUMBER(result) ((uint32_t)((uint64_t)(result) >> 32))
 #define SKIMP_VALUE(result) ((uint32_t)((uint64_t)(result) & 0xffffffffu))
@@ -66,23 +81,23 @@ enum skimp_run_number {
  * V and T stand in the object's header. A state of zero bytes only is the start of a run. */
 #define SKIMP_STATE_HEADER 20
 #define SKIMP_STATE_BYTES(variables, temporaries) (SKIMP_STATE_HEADER + 4 * ((size_t)(variables) + (temporaries) + 2))
-/* the longest state of any object: 64 variables and 32 temporaries */
-#define SKIMP_STATE_MOST SKIMP_STATE_BYTES(64, 32)
+/* the longest state of any object */
+#define SKIMP_STATE_MOST SKIMP_STATE_BYTES(SKIMP_MOST_VARIABLES, SKIMP_MOST_TEMPORARIES)
 
 /* The longest texts. A buffer of SKIMP_OBJECT_MOST bytes is never too short for an object, nor one of SKIMP_SHEET_MOST bytes
  * for a sheet: with them skimp_compile never replies 12 and skimp_read_back never 32. */
-#define SKIMP_OBJECT_MOST 18469
-#define SKIMP_SHEET_MOST 32768
+#define SKIMP_OBJECT_MOST (37 + 18 * SKIMP_MOST_ORDERS)
+#define SKIMP_SHEET_MOST (32 * SKIMP_MOST_ORDERS)
 
 /* The stack that a call needs: its own frame and all below it. These numbers are not proved but measured, on the inputs found
- * to need most and the archive built for x86-64, with a twentieth more at least and in whole KiB. Each is under 64 KiB. Compile
+ * to need most and the archive built for x86-64, with a twentieth more at least and in whole KiB. Each is under 96 KiB. Compile
  * needs most, some 57,000 bytes, and read-back, some 50,000, for an expression of many temporaries inside groups; a run needs
  * some 9,200 bytes whatever the object. A task that makes a call must have a stack of as many bytes to spare. */
-#define SKIMP_COMPILE_STACK_BYTES 60416
-#define SKIMP_READ_BACK_STACK_BYTES 55296
-#define SKIMP_RUN_STACK_BYTES 10240
+#define SKIMP_COMPILE_STACK_BYTES 97280
+#define SKIMP_READ_BACK_STACK_BYTES 97280
+#define SKIMP_RUN_STACK_BYTES 18432
 /* enough for every call */
-#define SKIMP_STACK_BYTES 60416
+#define SKIMP_STACK_BYTES 97280
 
 /* Compiles a source: writes the text of its object into the front of `object`.
  *
@@ -90,17 +105,18 @@ enum skimp_run_number {
  * The value is then the length of the object's text; the bytes behind it stay.
  *
  * Otherwise no byte of the buffer has changed, and the value is the place.
- *    1  the source is longer than 16,384 bytes: place 0
+ *    1  the source is longer than SKIMP_SOURCE_MOST bytes: place 0
  *    2  a byte is not 10 or 32 to 126: its offset
  *    3  the source ends in quotes, or in a continuation: the statement
- *    4  a statement holds more than 256 cells: the statement
+ *    4  a statement holds more than SKIMP_MOST_CELLS cells: the statement
  *    5  unknown keyword: the statement
  *    6  invalid constant: the statement
  *    7  no such form, or out of order, or a group with no instruction: the statement
  *    8  a name is unknown, declared twice, or SEND is misused: the statement
- *    9  a label is 0 or over 9999, set twice, or never set: the statement; for one that is never set, that of the first jump
+ *    9  a label is 0 or over SKIMP_GREATEST_LABEL, set twice, or never set: the statement; for one that is never set, that of
+ *       the first jump
  *   10  there is no %ENDOFPROGRAM: the number of statements read
- *   11  over 64 variables, 64 set labels, 16 levels of IF, 32 temporaries, or 1,024 orders with STOP: the statement
+ *   11  more variables, set labels, levels of IF, temporaries, or orders with STOP than the limits above: the statement
  *   12  the buffer is too short for the object, and all else is well: place 0
  *   13  a %FINISH closes no group: the statement; or a group is open at %ENDOFPROGRAM: the statement of the first such %START
  * Statements count from 1; those of nothing are not counted. */

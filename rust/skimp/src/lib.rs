@@ -41,15 +41,41 @@ unsafe extern "C" {
     ) -> u64;
 }
 
+/// The limits. A source over one of them is refused, and so is an object over one of the first three.
+pub const MOST_VARIABLES: usize = 128;
+pub const MOST_TEMPORARIES: usize = 32;
+/// STOP included.
+pub const MOST_ORDERS: usize = 2048;
+/// Labels that are set, and the greatest number that one may have.
+pub const MOST_LABELS: usize = 64;
+pub const GREATEST_LABEL: usize = 9999;
+/// IFs in each other, of a sheet too.
+pub const MOST_LEVELS: usize = 16;
+/// Cells of a statement, its end mark included.
+pub const MOST_CELLS: usize = 256;
+/// Bytes of a source.
+pub const SOURCE_MOST: usize = 16_384;
+
 /// A buffer of so many bytes is never too short for an object.
-pub const OBJECT_MOST: usize = 18_469;
+pub const OBJECT_MOST: usize = 37 + 18 * MOST_ORDERS;
 /// A buffer of so many bytes is never too short for a sheet.
-pub const SHEET_MOST: usize = 32_768;
+pub const SHEET_MOST: usize = 32 * MOST_ORDERS;
+
+/// The bytes of a state before its words.
+pub const STATE_HEADER: usize = 20;
+/// The longest state of any object.
+pub const STATE_MOST: usize = state_bytes(MOST_VARIABLES, MOST_TEMPORARIES);
+
+/// The bytes of the states of an object with so many variables and temporaries: beside their words, the
+/// frame has two link words.
+pub const fn state_bytes(variables: usize, temporaries: usize) -> usize {
+    STATE_HEADER + 4 * (variables + temporaries + 2)
+}
 
 /// A stack of so many bytes is enough for a call, as measured on its worst inputs, with a twentieth more at least.
-pub const COMPILE_STACK_BYTES: usize = 59 * 1024;
-pub const READ_BACK_STACK_BYTES: usize = 54 * 1024;
-pub const RUN_STACK_BYTES: usize = 10 * 1024;
+pub const COMPILE_STACK_BYTES: usize = 95 * 1024;
+pub const READ_BACK_STACK_BYTES: usize = 95 * 1024;
+pub const RUN_STACK_BYTES: usize = 18 * 1024;
 /// A stack of so many bytes is enough for every call.
 pub const STACK_BYTES: usize = COMPILE_STACK_BYTES;
 

@@ -6,21 +6,27 @@ use skimp::Refusal;
 use std::fmt::Write;
 
 /// Document 01's words for each refusal.
-fn words(number: u32) -> &'static str {
+fn words(number: u32) -> String {
+    let greatest = skimp::GREATEST_LABEL;
+    match number {
+        4 => format!("more than {} cells", skimp::MOST_CELLS),
+        9 => format!("label 0 or over {greatest}, set twice, or never set"),
+        11 => over_limit(),
+        _ => without_limits(number).to_string(),
+    }
+}
+
+/// The words of those that name no limit.
+fn without_limits(number: u32) -> &'static str {
     match number {
         1 => "source too long",
         2 => "byte not allowed",
         3 => "source ends in quotes or in a continuation",
-        4 => "more than 256 cells",
         5 => "unknown keyword",
         6 => "constant invalid",
         7 => "no such form, or out of order",
         8 => "name unknown, declared twice, or SEND misused",
-        9 => "label 0 or over 9999, set twice, or never set",
         10 => "no %ENDOFPROGRAM",
-        11 => {
-            "over 64 variables, 64 set labels, 16 levels, 32 temporaries, or 1,024 orders with STOP"
-        }
         12 => "object buffer too short, all else well",
         13 => "group left open, or %FINISH without one",
         21 => "header not of the form or over a limit",
@@ -32,6 +38,25 @@ fn words(number: u32) -> &'static str {
         31 => "good object, but no sheet translates to it",
         32 => "sheet buffer too short",
         _ => "refused",
+    }
+}
+
+fn over_limit() -> String {
+    format!(
+        "over {} variables, {} set labels, {} levels, {} temporaries, or {} orders with STOP",
+        skimp::MOST_VARIABLES,
+        skimp::MOST_LABELS,
+        skimp::MOST_LEVELS,
+        skimp::MOST_TEMPORARIES,
+        thousands(skimp::MOST_ORDERS)
+    )
+}
+
+/// A number with a comma before its last three digits: `2,048`.
+fn thousands(number: usize) -> String {
+    match number {
+        1000.. => format!("{},{:03}", number / 1000, number % 1000),
+        _ => number.to_string(),
     }
 }
 
@@ -116,7 +141,7 @@ fn message(name: &str, line: Option<u64>, place: &str, refusal: Refusal, text: &
     if let Some(line) = line {
         write!(message, ":{line}").expect("a string takes all text");
     }
-    for part in [place, words(refusal.number)] {
+    for part in [place, &words(refusal.number)] {
         if !part.is_empty() {
             message += ": ";
             message += part;

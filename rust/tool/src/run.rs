@@ -4,11 +4,10 @@ use crate::arguments::Run;
 use crate::files::{self, Place};
 use crate::{object, refusal, trace};
 use crate::{Failure, Outcome, DONE, FAULTED, NOT_ENDED};
-use skimp::{Refusal, Reply};
+use skimp::{Refusal, Reply, STATE_HEADER};
 use std::fmt::Write;
 
-/// The bytes of a state before its words, and those of a word: see `skimp.h`.
-const STATE_HEADER: usize = 20;
+/// The bytes of a word: see `skimp.h`.
 const WORD: usize = 4;
 const LINK_WORDS: usize = 2;
 
@@ -85,8 +84,8 @@ pub fn perform(run: &Run) -> Result<Outcome, Failure> {
     let object = files::read(&run.object)?;
     let header = object::header(&object);
     // where there is no such header, the object is refused for it
-    let words = header.map_or(0, |header| {
-        LINK_WORDS + header.variables + header.temporaries
+    let bytes = header.map_or(0, |header| {
+        skimp::state_bytes(header.variables, header.temporaries)
     });
     let stored = match &run.state {
         Some(path) => files::read_if_there(path)?,
@@ -96,7 +95,7 @@ pub fn perform(run: &Run) -> Result<Outcome, Failure> {
         object,
         variables: header.map_or(0, |header| header.variables),
         // "Words start at 0": a state of zero bytes is the start of a run
-        state: stored.unwrap_or_else(|| vec![0; STATE_HEADER + WORD * words]),
+        state: stored.unwrap_or_else(|| vec![0; bytes]),
         output: vec![0; WORD * run.room as usize],
     };
     // a run of no steps tells whether object and state are accepted

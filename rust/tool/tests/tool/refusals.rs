@@ -61,7 +61,7 @@ const SOURCES: [(u32, &str, &str); 11] = [
 fn long_sources() -> [(u32, Vec<u8>, String); 4] {
     let labels: String = (1..=65).map(|label| format!("{label}:\n")).collect();
     let limits =
-        "over 64 variables, 64 set labels, 16 levels, 32 temporaries, or 1,024 orders with STOP";
+        "over 128 variables, 64 set labels, 16 levels, 32 temporaries, or 2,048 orders with STOP";
     let sum = "1+".repeat(150);
     [
         (1, vec![b' '; 16_385], ": source too long [1]".to_string()),
@@ -110,13 +110,18 @@ fn of_sources() {
 }
 
 /// Objects with spaces for tabs, and what is said of them behind the file's name.
-const OBJECTS: [(u32, &str, &str); 14] = [
+const OBJECTS: [(u32, &str, &str); 15] = [
     (21, "", ":1: header not of the form or over a limit [21]"),
     (21, "%BEGIN\n", ":1: header not of the form or over a limit [21]\n    %BEGIN"),
     (
         21,
-        "BOX 65 0 1\nSTOP - 0\n",
-        ":1: header not of the form or over a limit [21]\n    BOX\t65\t0\t1",
+        "BOX 129 0 1\nSTOP - 0\n",
+        ":1: header not of the form or over a limit [21]\n    BOX\t129\t0\t1",
+    ),
+    (
+        21,
+        "BOX 128 32 2049\nSTOP - 0\n",
+        ":1: header not of the form or over a limit [21]\n    BOX\t128\t32\t2049",
     ),
     (
         21,
