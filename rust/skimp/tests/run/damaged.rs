@@ -2,6 +2,7 @@
 
 use std::collections::BTreeSet;
 
+use skimp::MOST_ORDERS;
 use skimp_reference::damage::texts::{BYTES, DAMAGES};
 use skimp_reference::random::Random;
 
@@ -47,7 +48,7 @@ impl Tally {
 
 fn some_program(random: &mut Random) -> Program {
     let length = match random.below(32) {
-        0 => random.between(900, 1024),
+        0 => random.between(MOST_ORDERS / 2, MOST_ORDERS),
         1..=3 => random.between(20, 150),
         _ => random.between(1, 12),
     };

@@ -3,6 +3,7 @@
 
 mod call;
 mod damaged;
+mod limits;
 mod orders;
 mod program;
 mod programs;

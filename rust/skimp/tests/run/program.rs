@@ -2,6 +2,8 @@
 
 use skimp_reference::random::Random;
 
+use skimp::{MOST_TEMPORARIES, MOST_VARIABLES};
+
 use crate::call::Call;
 
 pub const WITH_VALUE: [&str; 12] = [
@@ -12,9 +14,6 @@ pub const WITH_ADDRESS: [&str; 8] = ["JMP", "SKIP", "BE", "BNE", "BLT", "BLE", "
 pub const WITH_NOTHING: [&str; 3] = ["NEG", "NOT", "SEND"];
 const NEVER_FAULTING: [&str; 8] = ["LOAD", "ADD", "SUB", "MLT", "AND", "OR", "XOR", "CMP"];
 
-pub const MOST_VARIABLES: usize = 64;
-pub const MOST_TEMPORARIES: usize = 32;
-pub const MOST_ORDERS: usize = 1024;
 pub const FIRST_WORD: usize = 2;
 
 #[derive(Clone)]
@@ -67,9 +66,17 @@ impl Program {
 
     /// A random program of `length` orders.
     pub fn random(random: &mut Random, style: Style, length: usize) -> Program {
+        let variables = count(random, MOST_VARIABLES);
+        let temporaries = count(random, MOST_TEMPORARIES);
+        Program::of_size(random, style, [variables, temporaries, length])
+    }
+
+    /// A random program of these variables, temporaries and orders.
+    pub fn of_size(random: &mut Random, style: Style, size: [usize; 3]) -> Program {
+        let [variables, temporaries, length] = size;
         let mut program = Program {
-            variables: count(random, MOST_VARIABLES),
-            temporaries: count(random, MOST_TEMPORARIES),
+            variables,
+            temporaries,
             orders: Vec::with_capacity(length),
         };
         for place in 0..length - 1 {
@@ -90,10 +97,11 @@ impl Program {
     }
 }
 
-/// From 0 to `most`, the ends often.
+/// From 0 to `most`, the ends and about the middle often.
 fn count(random: &mut Random, most: usize) -> usize {
+    let half = most / 2;
     match random.below(4) {
-        0 => random.pick(&[0, 1, most - 1, most]),
+        0 => random.pick(&[0, 1, half - 1, half, half + 1, most - 1, most]),
         1 => random.below(most + 1),
         _ => random.below(7),
     }

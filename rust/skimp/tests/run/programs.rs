@@ -1,19 +1,21 @@
 //! Whole runs of random good objects.
 
+use skimp::MOST_ORDERS;
 use skimp_reference::random::Random;
 
 use crate::call::Call;
-use crate::program::{random_call, Program, Style, MOST_ORDERS, STYLES};
+use crate::program::{random_call, Program, Style, STYLES};
 
 const PROGRAMS: usize = 6000;
 /// Runs of each program, from different states.
 const RUNS: usize = 4;
 
-/// How many orders a program has, with both ends of the range often.
+/// How many orders a program has, with both ends of the range and its middle often.
 fn length(random: &mut Random, most: usize) -> usize {
+    let half = most / 2;
     match random.below(16) {
         0 => 1,
-        1 => random.pick(&[2, most - 1, most]),
+        1 => random.pick(&[2, half - 1, half, half + 1, most - 1, most]),
         2 => random.between(1, most),
         3..=6 => random.between(2, most.min(150)),
         _ => random.between(2, most.min(30)),

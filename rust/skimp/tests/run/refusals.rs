@@ -1,15 +1,14 @@
 //! Object texts with the number and the place of their refusal, by document 01's rules.
 
-use skimp_reference::random::Random;
-
 use crate::call::Call;
-use crate::program::{state, Program};
+use crate::program::state;
 
 /// Headers refused with 21.
 #[rustfmt::skip]
-const BAD_HEADERS: [&str; 33] = [
+const BAD_HEADERS: [&str; 37] = [
     "", "\n", "BOX", "BOX 1 1 1", "BOX 1 1\n", "BOX 1 1 1 \n", "BOX 1 1 1 1\n", "BOX  1 1 1\n",
-    "BOX 1 1 0\n", "BOX 1 1 1025\n", "BOX 65 1 1\n", "BOX 1 33 1\n", "BOX 01 1 1\n",
+    "BOX 1 1 0\n", "BOX 1 1 2049\n", "BOX 129 1 1\n", "BOX 1 33 1\n", "BOX 01 1 1\n",
+    "BOX 129 32 2048\n", "BOX 128 33 2048\n", "BOX 128 32 2049\n", "BOX 256 0 1\n",
     "BOX 1 00 1\n", "BOX 1 1 01\n", "BOX 1 1 \n", "BOX +1 1 1\n", "BOX 1 -1 1\n", "BOX 1 1 1\r\n",
     "BOX_1 1 1\n", "BOX 1 1 1_\n", "box 1 1 1\n", "BOXX 1 1 1\n", "BO 1 1 1\n", " BOX 1 1 1\n",
     "BOX 4294967297 1 1\n", "BOX 1 4294967297 1\n", "BOX 1 1 4294967297\n",
@@ -38,7 +37,7 @@ const BAD_LINES: [&str; 54] = [
 ];
 
 /// Calls with a text in which spaces stand for tabs and `_` for a space.
-fn reply(text: &str) -> (u32, u32) {
+pub fn reply(text: &str) -> (u32, u32) {
     let object = text.replace(' ', "\t").replace('_', " ").into_bytes();
     let call = Call {
         object,
@@ -69,7 +68,8 @@ fn headers() {
     for header in ["BOX 1 1 1\n", "BOX 2 0 1\n", "BOX 0 2 1\n"] {
         assert_eq!(reply(&format!("{header}{good}")), (20, 1), "{header}");
     }
-    for header in ["BOX 64 32 1\n", "BOX 0 0 1\n", "BOX 63 32 1\n"] {
+    for variables in [0, 63, 64, 65, 127, 128] {
+        let header = format!("BOX {variables} 32 1\n");
         // accepted, but the state of four words does not fit
         assert_eq!(reply(&format!("{header}{good}")), (26, 0), "{header}");
     }
@@ -95,7 +95,9 @@ fn number_of_lines() {
     let two = "NEG - 0\nSTOP - 0\n";
     assert_eq!(reply(&format!("BOX 1 1 2\n{two}")), (20, 2));
     assert_eq!(reply(&format!("BOX 1 1 3\n{two}")), (22, 2));
-    assert_eq!(reply(&format!("BOX 1 1 1024\n{two}")), (22, 2));
+    for orders in [1023, 1024, 1025, 2047, 2048] {
+        assert_eq!(reply(&format!("BOX 1 1 {orders}\n{two}")), (22, 2));
+    }
     assert_eq!(reply(&format!("BOX 1 1 1\n{two}")), (22, 1));
     assert_eq!(reply("BOX 1 1 2\n"), (22, 0));
     assert_eq!(reply("BOX 1 1 2\nNEG - 0\nSTOP - 0"), (22, 1));
@@ -111,7 +113,7 @@ fn number_of_lines() {
 fn order_of_checks() {
     for (text, expected) in [
         // 21 before all others
-        ("BOX 65 1 1\nNEG - 0\nx", (21, 0)),
+        ("BOX 129 1 1\nNEG - 0\nx", (21, 0)),
         // 22 on a later line, or behind the last, before 23, 24 and 25
         ("BOX 1 1 3\nLOAD D 9\nNEG - 1\nSTOP - 0\n", (22, 1)),
         ("BOX 1 1 3\nJMP A 3\nSTOP - 0\nNEG - 1\n", (22, 2)),
@@ -154,22 +156,4 @@ fn words_and_addresses_at_their_limits() {
     }
     // without variables and temporaries there is no word to name
     assert_eq!(reply("BOX 0 0 2\nLOAD D 2\nSTOP - 0\n"), (23, 0));
-}
-
-/// The longest object, whole and one order longer, and the widest frame.
-#[test]
-fn the_limits_together() {
-    let mut random = Random(7);
-    let mut program = Program::random(&mut random, crate::program::Style::Any, 1024);
-    (program.variables, program.temporaries) = (64, 32);
-    let mut call = Call {
-        object: program.text(),
-        state: vec![0; 412],
-        output: Vec::new(),
-        budget: 0,
-    };
-    assert!(call.outcome("1024 orders").number <= 4);
-    program.orders.push(program.orders[0].clone());
-    call.object = program.text();
-    assert_eq!(call.outcome("1025 orders").number, 21);
 }

@@ -41,9 +41,44 @@ fn length() {
     };
     hold("length", &[40], false, resized);
     let bad = [
-        0, 1, 4, 16, 19, 20, 21, 24, 28, 36, 37, 38, 39, 41, 42, 43, 44, 60, 80, 412, 5000,
+        0, 1, 4, 16, 19, 20, 21, 24, 28, 36, 37, 38, 39, 41, 42, 43, 44, 60, 80, 412, 668, 5000,
     ];
     hold("length", &bad, true, resized);
+}
+
+/// "words not V+T+2 in number", for frames up to the longest: a word less or more is refused, and so
+/// is a part of one.
+#[test]
+fn lengths_of_long_frames() {
+    for (variables, temporaries, length) in [
+        (0, 0, 28),
+        (64, 0, 284),
+        (64, 32, 412),
+        (65, 32, 416),
+        (127, 32, 664),
+        (128, 0, 540),
+        (128, 31, 664),
+        (128, 32, 668),
+    ] {
+        let object = format!("BOX\t{variables}\t{temporaries}\t1\nSTOP\t-\t0\n");
+        let number = |length: usize| {
+            let call = Call {
+                object: object.clone().into_bytes(),
+                state: vec![0; length],
+                output: Vec::new(),
+                budget: 1,
+            };
+            call.outcome(&object).number
+        };
+        assert_eq!(number(length), 20, "{object}");
+        for other in [20, 24, length - 8, length - 4, length - 1, length + 1] {
+            assert_eq!(number(other), 26, "{other} bytes: {object}");
+        }
+        for other in [length + 4, length + 8, 2 * length, 412, 668, 672, 1024] {
+            let expected = if other == length { 20 } else { 26 };
+            assert_eq!(number(other), expected, "{other} bytes: {object}");
+        }
+    }
 }
 
 #[test]

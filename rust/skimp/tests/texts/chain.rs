@@ -81,8 +81,8 @@ fn from_large_sources() {
     let name = "large chains, seed 62";
     let mut random = Random(62);
     let mut chain = Chain::new();
-    for _ in 0..1_000 {
-        let sheet = Plan::large_sheet(&mut random);
+    for _ in 0..300 {
+        let sheet = Plan::large_program(&mut random);
         let Some(statements) = program::write(&mut random, &sheet) else {
             continue;
         };
@@ -94,7 +94,13 @@ fn from_large_sources() {
     }
     let programs = chain.runs.programs;
     assert!(programs >= 100, "{name}: {programs} programs");
-    assert!(chain.census.with_orders(1024) >= 10, "{name}");
+    for (orders, least) in [(1023, 5), (1024, 5), (1025, 5), (2048, 20)] {
+        let count = chain.census.with_orders(orders);
+        assert!(
+            count >= least,
+            "{name}: {count} programs with {orders} orders"
+        );
+    }
 }
 
 /// Sheets whether a source can have them or not.
@@ -106,6 +112,7 @@ fn from_sheets() {
     for round in 0..2000 {
         let sheet = match round % 8 {
             0 => Plan::large_sheet(&mut random),
+            1 => Plan::deep_sheet(&mut random),
             _ => Plan::small_sheet(&mut random),
         };
         let translation = translate(&sheet).expect("within the limits");

@@ -8,8 +8,9 @@ use skimp_reference::limits;
 
 use crate::{compile_call, read_back_call};
 
-/// Holds what a C compiler takes constants of include/skimp.h for to numbers.
-fn hold_header(constants: &[(&str, usize)]) -> bool {
+/// Holds what a C compiler takes constants of include/skimp.h for to numbers. Gives what it says where
+/// they are others.
+fn hold_header(constants: &[(&str, usize)]) -> Result<(), String> {
     let mut text = String::from("#include \"skimp.h\"\n");
     for (name, number) in constants {
         text += &format!("_Static_assert({name} == {number}, \"{name} is not {number}\");\n");
@@ -19,17 +20,22 @@ fn hold_header(constants: &[(&str, usize)]) -> bool {
     let mut child = Command::new(compiler)
         .args(["-std=c11", "-fsyntax-only", "-I", folder, "-x", "c", "-"])
         .stdin(Stdio::piped())
+        .stderr(Stdio::piped())
         .spawn()
         .expect("a C compiler");
     let mut input = child.stdin.take().expect("standard input");
     input.write_all(text.as_bytes()).expect("the text is read");
     drop(input);
-    child.wait().expect("its end").success()
+    let output = child.wait_with_output().expect("its end");
+    match output.status.success() {
+        true => Ok(()),
+        false => Err(String::from_utf8_lossy(&output.stderr).into_owned()),
+    }
 }
 
 #[test]
 fn constants_of_the_header() {
-    assert!(hold_header(&[
+    let held = hold_header(&[
         ("SKIMP_MOST_VARIABLES", skimp::MOST_VARIABLES),
         ("SKIMP_MOST_TEMPORARIES", skimp::MOST_TEMPORARIES),
         ("SKIMP_MOST_ORDERS", skimp::MOST_ORDERS),
@@ -47,9 +53,11 @@ fn constants_of_the_header() {
         ("SKIMP_READ_BACK_STACK_BYTES", skimp::READ_BACK_STACK_BYTES),
         ("SKIMP_RUN_STACK_BYTES", skimp::RUN_STACK_BYTES),
         ("SKIMP_STACK_BYTES", skimp::STACK_BYTES),
-    ]));
+    ]);
+    assert_eq!(held, Ok(()));
     // the comparison can fail
-    assert!(!hold_header(&[("SKIMP_STATE_HEADER", 21)]));
+    let other = hold_header(&[("SKIMP_STATE_HEADER", 21)]);
+    assert!(other.is_err_and(|says| says.contains("SKIMP_STATE_HEADER is not 21")));
     assert_eq!([skimp::OBJECT_MOST, skimp::SHEET_MOST], [36_901, 65_536]);
     assert_eq!(skimp::STATE_MOST, 668);
     for bytes in [skimp::READ_BACK_STACK_BYTES, skimp::RUN_STACK_BYTES] {

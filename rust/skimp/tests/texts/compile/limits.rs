@@ -1,5 +1,6 @@
 //! Sources one below a limit, at it and one above it, with the number and the place that document 01
-//! settles.
+//! settles; and about half of the variables and of the orders that there may be, where nothing is
+//! refused.
 
 use skimp_reference::agree::{Compared, COMPILE};
 
@@ -92,13 +93,16 @@ fn variables() {
         let lists = lists.map(|list| format!("%INTEGER {}\n", list.join(",")));
         format!("%BEGIN\n{}%ENDOFPROGRAM", lists.collect::<String>())
     };
-    for (in_list, place) in [(1, 66), (16, 6), (32, 4), (13, 6)] {
+    for (in_list, place) in [(1, 130), (16, 10), (32, 6), (13, 11)] {
         hold(
             "variables",
             &[
                 (declared(63, in_list), Ok(())),
                 (declared(64, in_list), Ok(())),
-                (declared(65, in_list), Err((11, place))),
+                (declared(65, in_list), Ok(())),
+                (declared(127, in_list), Ok(())),
+                (declared(128, in_list), Ok(())),
+                (declared(129, in_list), Err((11, place))),
             ],
         );
     }
@@ -213,12 +217,22 @@ fn orders() {
         &[
             (jumps(1022), Ok(())),
             (jumps(1023), Ok(())),
-            (jumps(1024), Err((11, 1026))),
-            (jumps(1200), Err((11, 1026))),
+            (jumps(1024), Ok(())),
+            (jumps(2046), Ok(())),
+            (jumps(2047), Ok(())),
+            (jumps(2048), Err((11, 2050))),
+            (jumps(2400), Err((11, 2050))),
             (sends(511, ""), Ok(())),
             (sends(511, "->1\n"), Ok(())),
-            (sends(511, "->1\n->1\n"), Err((11, 515))),
-            (sends(512, ""), Err((11, 514))),
+            (sends(512, ""), Ok(())),
+            (sends(1023, ""), Ok(())),
+            (sends(1023, "->1\n"), Ok(())),
+            (sends(1023, "->1\n->1\n"), Err((11, 1027))),
+            (sends(1024, ""), Err((11, 1026))),
+            // 8 and 9 come before
+            (sends(1023, "SEND(A)\n"), Err((8, 1026))),
+            (sends(1023, "0:SEND(1)\n"), Err((9, 1026))),
+            (sends(1023, "->1\n->0\n"), Err((9, 1027))),
         ],
     );
 }
@@ -235,12 +249,16 @@ fn orders_of_groups() {
         "orders of groups",
         &[
             (after(508, both), Ok(())),
-            (after(508, &format!("->1\n{both}")), Ok(())),
+            (after(509, both), Ok(())),
+            (after(510, both), Ok(())),
+            (after(511, both), Ok(())),
+            (after(1020, both), Ok(())),
+            (after(1020, &format!("->1\n{both}")), Ok(())),
             // the second part, the SKIP, the first part, the condition
-            (after(509, both), Err((11, 516))),
-            (after(509, &format!("->1\n{both}")), Err((11, 516))),
-            (after(510, both), Err((11, 515))),
-            (after(510, &format!("->1\n{both}")), Err((11, 515))),
+            (after(1021, both), Err((11, 1028))),
+            (after(1021, &format!("->1\n{both}")), Err((11, 1028))),
+            (after(1022, both), Err((11, 1027))),
+            (after(1022, &format!("->1\n{both}")), Err((11, 1027))),
         ],
     );
 }

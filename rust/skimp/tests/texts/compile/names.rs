@@ -9,16 +9,16 @@ mod used;
 use std::collections::BTreeMap;
 
 use skimp_reference::agree::{Compared, COMPILE};
-use skimp_reference::limits::MOST_SOURCE;
+use skimp_reference::limits::{self, MOST_SOURCE};
 use skimp_reference::random::Random;
 use skimp_reference::writing::spelling::Style;
 use skimp_reference::writing::token::Token;
 
 use crate::compile_call;
 
-const MOST_VARIABLES: usize = 64;
+const MOST_VARIABLES: usize = limits::MOST_VARIABLES as usize;
 /// The cells of a statement before its end mark.
-const MOST_CELLS: usize = 255;
+const MOST_CELLS: usize = limits::MOST_CELLS - 1;
 /// The letters of the longest name that can be declared.
 const MOST_DECLARED: usize = MOST_CELLS - "INTEGER".len();
 

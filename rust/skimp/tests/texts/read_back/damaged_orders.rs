@@ -1,6 +1,7 @@
 //! Orders that are a translation but for some damage, and random orders. Some are the translation of
 //! another sheet.
 
+use skimp::MOST_ORDERS;
 use skimp_reference::agree::{Compared, Outcomes, READ_BACK};
 use skimp_reference::damage::orders::{some_order, Damage, DAMAGES};
 use skimp_reference::generate::Plan;
@@ -71,7 +72,7 @@ fn damaged_orders() {
         (22, 10, 1),
         (23, 500, 50),
         (24, 200, 20),
-        (25, 1000, 50),
+        (25, 1000, 40),
         (31, 10_000, 1),
     ] {
         outcomes.met("damaged orders, seed 25", number, least, places);
@@ -87,7 +88,7 @@ fn random_orders() {
     let mut outcomes = Outcomes::default();
     for _ in 0..60_000 {
         let length = match random.below(200) {
-            0 => random.between(100, 1024),
+            0 => random.between(100, MOST_ORDERS),
             1..=20 => random.between(5, 40),
             _ => random.between(1, 5),
         };

@@ -28,27 +28,38 @@ fn random_sheets() {
     let mut compared = Compared::new(READ_BACK, read_back_call);
     let mut census = Census::default();
     for one in [false, true] {
-        for _ in 0..50 {
-            let sheet = Plan::exact_sheet(&mut random, [64, 32, 1024], one);
-            let translation = check_sheet(&mut compared, name, &sheet);
-            census.add(&sheet, &translation);
+        for _ in 0..25 {
+            for within in [
+                [128, 32, 2048],
+                // one below each limit
+                [127, 32, 2048],
+                [128, 31, 2048],
+                [128, 32, 2047],
+                // half of two of them, and one more
+                [64, 32, 1024],
+                [65, 32, 1025],
+            ] {
+                let sheet = Plan::exact_sheet(&mut random, within, one);
+                let translation = check_sheet(&mut compared, name, &sheet);
+                census.add(&sheet, &translation);
+            }
             for over in [
-                [65, 32, 1024],
-                [64, 33, 1024],
-                [64, 32, 1025],
+                [129, 32, 2048],
+                [128, 33, 2048],
+                [128, 32, 2049],
                 // over one limit, far from the others
-                [65, 0, 20],
+                [129, 0, 20],
                 [0, 33, 200],
-                [0, 0, 1025],
+                [0, 0, 2049],
             ] {
                 let sheet = Plan::exact_sheet(&mut random, over, one);
                 refused(&mut compared, name, &sheet);
             }
         }
     }
-    assert_eq!(census.with_variables(64), 100, "{name}");
-    assert_eq!(census.with_temporaries(32), 100, "{name}");
-    assert_eq!(census.with_orders(1024), 100, "{name}");
+    assert_eq!(census.with_variables(128), 150, "{name}");
+    assert_eq!(census.with_temporaries(32), 250, "{name}");
+    assert_eq!(census.with_orders(2048), 150, "{name}");
     assert!(census.with_instructions(1) >= 5, "{name}");
 }
 
@@ -61,24 +72,26 @@ fn plain_sheets() {
         let jump = |number| Line::Simple(Simple::Goto(count + 1 - number));
         (0..count).map(jump).collect::<Vec<_>>()
     };
-    for variables in [0, 64] {
+    for variables in [0, 63, 64, 65, 127, 128] {
         let none = sheet(variables, Vec::new());
         check_sheet(&mut compared, "no instruction", &none);
-        let most = sheet(variables, jumps(1023));
-        check_sheet(&mut compared, "1,023 jumps", &most);
-        let over = sheet(variables, jumps(1024));
-        refused(&mut compared, "1,024 jumps", &over);
+        for count in [1022, 1023, 1024, 2046, 2047] {
+            let most = sheet(variables, jumps(count));
+            check_sheet(&mut compared, "jumps", &most);
+        }
+        let over = sheet(variables, jumps(2048));
+        refused(&mut compared, "2,048 jumps", &over);
     }
-    let over = sheet(65, Vec::new());
-    refused(&mut compared, "65 variables, none named", &over);
+    let over = sheet(129, Vec::new());
+    refused(&mut compared, "129 variables, none named", &over);
     for constant in [0, 9, 10, 999_999_999, 1_000_000_000, 2_147_483_647] {
         let value = Expression::Constant(constant);
         let send = Line::Simple(Simple::Send(value));
         check_sheet(&mut compared, "a constant", &sheet(0, vec![send]));
     }
-    for word in 2..=65 {
-        let set = Line::Simple(Simple::Set(word, Expression::Word(67 - word)));
-        check_sheet(&mut compared, "a word", &sheet(64, vec![set]));
+    for word in 2..=129 {
+        let set = Line::Simple(Simple::Set(word, Expression::Word(131 - word)));
+        check_sheet(&mut compared, "a word", &sheet(128, vec![set]));
     }
 }
 

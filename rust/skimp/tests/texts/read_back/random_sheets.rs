@@ -33,12 +33,12 @@ fn large_sheets() {
     let mut random = Random(22);
     let mut compared = Compared::new(READ_BACK, read_back_call);
     let mut census = Census::default();
-    for _ in 0..2000 {
+    for _ in 0..1500 {
         let sheet = Plan::large_sheet(&mut random);
         let translation = check_sheet(&mut compared, name, &sheet);
         census.add(&sheet, &translation);
     }
-    assert_eq!(census.sheets, 2000);
+    assert_eq!(census.sheets, 1500);
     census.every_form(name, 100);
     for depth in 0..=16 {
         let count = census.with_depth(depth);
@@ -49,9 +49,12 @@ fn large_sheets() {
         let count = census.with_temporaries(temporaries);
         assert!(count >= 2, "{name}: {count} sheets with T {temporaries}");
     }
-    for variables in [0, 1, 63, 64] {
+    for variables in [0, 1, 63, 64, 65, 127, 128] {
         let count = census.with_variables(variables);
         assert!(count >= 10, "{name}: {count} sheets with V {variables}");
     }
-    assert!(census.with_orders(1024) >= 1000, "{name}");
+    for (orders, least) in [(1023, 75), (1024, 75), (1025, 75), (2047, 35), (2048, 500)] {
+        let count = census.with_orders(orders);
+        assert!(count >= least, "{name}: {count} sheets with N {orders}");
+    }
 }

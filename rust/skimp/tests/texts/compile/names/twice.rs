@@ -60,7 +60,7 @@ fn declared_twice() {
 fn passing_the_most() {
     let mut tries = Tries::new(65);
     for before in 0..=MOST_VARIABLES {
-        for _ in 0..40 {
+        for _ in 0..30 {
             let random = &mut tries.random;
             let mut names = of_length(random, before + 65, 2);
             let mut list = of_length(random, 26, 1);
@@ -85,10 +85,10 @@ fn passing_the_most() {
         ("once", 0, 1_000),
         ("once", 11, 1_000),
         ("twice", 8, 500),
-        ("twice, before the 65th", 8, 500),
-        ("twice, behind the 64th", 8, 900),
-        ("twice, behind the 128th", 8, 100),
-        ("124 times", 8, 65),
+        ("twice, before the 129th", 8, 500),
+        ("twice, behind the 128th", 8, 900),
+        ("twice, behind the 200th", 8, 50),
+        ("124 times", 8, 129),
     ]);
 }
 
@@ -106,9 +106,9 @@ fn with_second(
     let mut known = [names, &list[..place]].concat();
     let last = known.len();
     let kind = match (last, names.len() + list.len()) {
-        (128.., _) => "twice, behind the 128th",
-        (MOST_VARIABLES.., _) => "twice, behind the 64th",
-        (_, MOST_VARIABLES..) => "twice, before the 65th",
+        (200.., _) => "twice, behind the 200th",
+        (MOST_VARIABLES.., _) => "twice, behind the 128th",
+        (_, MOST_VARIABLES..) => "twice, before the 129th",
         _ => "twice",
     };
     known.push("SEND".to_string());
