@@ -1,17 +1,16 @@
 //! Run: the time for a step, of objects that both run from the start to their STOP.
 
-use crate::inputs::orders;
+use crate::inputs::{orders, Size, SIZES};
+use crate::table::{Line, Table};
 use std::time::{Duration, Instant};
 
 const ROUNDS: usize = 7;
 const LEAST_STEPS: u32 = 10_000_000;
 const STOPPED: u32 = 20;
 
-const STATE_HEADER: usize = 20;
 const LINK_WORDS: usize = 2;
 const VARIABLES: usize = 2;
 const TEMPORARIES: usize = 6;
-const FRAME: usize = LINK_WORDS + VARIABLES + TEMPORARIES;
 /// The words of the two variables and of the first temporary.
 const COUNTER: usize = LINK_WORDS;
 const TOTAL: usize = LINK_WORDS + 1;
@@ -19,6 +18,10 @@ const TEMPORARY: usize = LINK_WORDS + VARIABLES;
 
 struct Program {
     name: &'static str,
+    /// How large it is, where there is one of another size beside it.
+    size: Option<Size>,
+    /// V and T.
+    frame: [usize; 2],
     /// The text, with spaces for tabs.
     orders: Vec<String>,
     output: usize,
@@ -29,13 +32,16 @@ impl Program {
     fn new(name: &'static str, body: Vec<String>, times: u32, output: usize) -> Program {
         Program {
             name,
+            size: None,
+            frame: [VARIABLES, TEMPORARIES],
             orders: repeat(body, times),
             output,
         }
     }
 
     fn text(&self) -> Vec<u8> {
-        let header = format!("BOX {VARIABLES} {TEMPORARIES} {}", self.orders.len());
+        let [variables, temporaries] = self.frame;
+        let header = format!("BOX {variables} {temporaries} {}", self.orders.len());
         let lines = [header].into_iter().chain(self.orders.iter().cloned());
         let text: String = lines.map(|line| line.replace(' ', "\t") + "\n").collect();
         text.into_bytes()
@@ -96,7 +102,41 @@ fn divisions() -> Vec<String> {
     orders(&format!("{words};{quotients}"))
 }
 
-fn programs() -> [Program; 5] {
+/// A loop of all orders that there may be, each on another of the first words.
+fn long_loop(size: Size) -> Program {
+    // the loop's own orders, STOP included
+    let around = repeat(Vec::new(), 1).len();
+    let orders = (0..size.orders + 1 - around).map(|place| {
+        let word = LINK_WORDS + place % (VARIABLES + TEMPORARIES);
+        match place % 3 {
+            0 => format!("LOAD D {word}"),
+            1 => format!("ADD K {place}"),
+            _ => format!("STR D {}", word.max(TOTAL)),
+        }
+    });
+    let times = LEAST_STEPS / size.orders as u32 + 1;
+    Program {
+        size: Some(size),
+        ..Program::new("loop of all orders", orders.collect(), times, 0)
+    }
+}
+
+/// A loop on the last words of the longest frame.
+fn last_words(size: Size) -> Program {
+    let frame = [size.variables, skimp::MOST_TEMPORARIES];
+    let last = LINK_WORDS + frame[0] + frame[1] - 1;
+    let variable = LINK_WORDS + size.variables - 1;
+    let body = format!(
+        "LOAD D {last};ADD D {variable};STR D {last};SUB K 3;XOR D {variable};STR D {variable}"
+    );
+    Program {
+        size: Some(size),
+        frame,
+        ..Program::new("last words", orders(&body), 800_000, 0)
+    }
+}
+
+fn programs() -> Vec<Program> {
     let mut sum = Vec::new();
     expression(TEMPORARIES - 1, 0, &mut sum);
     sum.push(format!("STR D {TOTAL}"));
@@ -105,13 +145,16 @@ fn programs() -> [Program; 5] {
     // a condition that holds in the first part of another, so that two SKIPs come in a row
     let groups = "LOAD D 2;CMP K 0;BLT A 12;LOAD D 2;CMP K 0;BLT A 9;LOAD D 2;STR D 3;SKIP A 11;\
                   LOAD K 0;STR D 3;SKIP A 14;LOAD K 1;STR D 3";
-    [
+    let mut programs = vec![
         Program::new("counting", Vec::new(), 2_000_000, 0),
         Program::new("expression", sum, 80_000, 0),
         Program::new("dividing", divisions(), 300_000, 0),
         Program::new("groups", orders(groups), 1_000_000, 0),
         Program::new("sending", sends, 1_000_000, 4 * 4_000_000),
-    ]
+    ];
+    programs.extend(SIZES.map(long_loop));
+    programs.extend(SIZES.map(last_words));
+    programs
 }
 
 /// What a run leaves, and how long it took.
@@ -126,9 +169,10 @@ struct Run {
 fn measure(
     run: impl Fn(&[u8], &mut [u8], &mut [u8]) -> (u32, u32),
     text: &[u8],
+    frame: [usize; 2],
     output: &mut [u8],
 ) -> Run {
-    let mut state = vec![0; STATE_HEADER + 4 * FRAME];
+    let mut state = vec![0; skimp::state_bytes(frame[0], frame[1])];
     output.fill(0);
     let start = Instant::now();
     let (number, steps) = run(text, &mut state, output);
@@ -152,15 +196,15 @@ fn reference(text: &[u8], state: &mut [u8], output: &mut [u8]) -> (u32, u32) {
 }
 
 /// Measures a program in both and prints its line.
-fn line(program: &Program) {
+fn line(table: &mut Table, program: &Program) {
     let text = program.text();
     let mut outputs = [vec![0; program.output], vec![0; program.output]];
     let mut least = [Duration::MAX; 2];
     let mut steps = 0;
     // the first round warms up
     for round in 0..=ROUNDS {
-        let ours = measure(proved, &text, &mut outputs[0]);
-        let other = measure(reference, &text, &mut outputs[1]);
+        let ours = measure(proved, &text, program.frame, &mut outputs[0]);
+        let other = measure(reference, &text, program.frame, &mut outputs[1]);
         let name = program.name;
         assert_eq!(ours.number, STOPPED, "{name}: it did not stop");
         assert_eq!(ours.number, other.number, "{name}: the numbers differ");
@@ -174,21 +218,18 @@ fn line(program: &Program) {
             least[1] = least[1].min(other.time);
         }
     }
-    let [ours, other] = least.map(|time| time.as_secs_f64() * 1e9 / f64::from(steps));
-    println!(
-        "{:<22}{steps:>10}{ours:>12.2}{other:>12.2}{:>12.2}",
-        program.name,
-        ours / other
-    );
+    table.line(&Line {
+        name: program.name,
+        size: program.size,
+        count: steps as usize,
+        least,
+    });
 }
 
 /// Prints the table of run.
 pub fn report() {
-    println!(
-        "{:<22}{:>10}{:>12}{:>12}{:>12}",
-        "run", "steps", "proved ns", "Rust ns", "ratio"
-    );
+    let mut table = Table::new("run", "steps");
     for program in programs() {
-        line(&program);
+        line(&mut table, &program);
     }
 }

@@ -3,11 +3,12 @@
 use std::time::{Duration, Instant};
 
 use crate::inputs::Input;
+use crate::table::{Line, Table};
 use crate::{objects, sources};
 
 const ROUNDS: usize = 30;
 /// A round reads about so many bytes, so that the clock's own time does not count.
-const BYTES: usize = 32_768;
+const BYTES: usize = 2 * skimp::SOURCE_MOST;
 /// What the buffers hold before a call.
 const UNTOUCHED: u8 = 0x5A;
 
@@ -52,7 +53,8 @@ fn measure(call: Call, text: &[u8], buffer: &mut [u8]) -> ((u32, u32), Duration)
 }
 
 /// Measures an input in both, and prints its line. Gives the text that both wrote.
-fn line(name: &str, text: &[u8], calls: Calls) -> Vec<u8> {
+fn line(table: &mut Table, input: &Input, calls: Calls) -> Vec<u8> {
+    let Input { name, size, text } = input;
     let mut buffers = [vec![0; skimp::SHEET_MOST], vec![0; skimp::SHEET_MOST]];
     let mut least = [Duration::MAX; 2];
     let mut written = 0;
@@ -68,41 +70,26 @@ fn line(name: &str, text: &[u8], calls: Calls) -> Vec<u8> {
             least = [least[0].min(our_time), least[1].min(other_time)];
         }
     }
-    let [ours, other] = least.map(|time| time.as_secs_f64() * 1e9 / text.len() as f64);
-    println!(
-        "{name:<22}{:>10}{ours:>12.2}{other:>12.2}{:>12.2}",
-        text.len(),
-        ours / other
-    );
+    table.line(&Line {
+        name,
+        size: *size,
+        count: text.len(),
+        least,
+    });
     buffers[0][..written].to_vec()
-}
-
-fn header(call: &str) {
-    println!(
-        "{call:<22}{:>10}{:>12}{:>12}{:>12}",
-        "bytes", "proved ns", "Rust ns", "ratio"
-    );
 }
 
 /// Prints the table of compile. Gives the objects, those that are alike once.
 fn compile() -> Vec<Input> {
-    header("compile");
+    let mut table = Table::new("compile", "bytes");
     let mut objects: Vec<Input> = Vec::new();
-    for Input { name, text } in sources::all() {
-        let object = line(name, &text, COMPILE);
-        if objects.iter().all(|other| other.text != object) {
-            objects.push(Input { name, text: object });
+    for source in sources::all() {
+        let text = line(&mut table, &source, COMPILE);
+        if objects.iter().all(|other| other.text != text) {
+            objects.push(Input { text, ..source });
         }
     }
     objects
-}
-
-/// Prints the table of read-back.
-fn read_back(objects: &[Input]) {
-    header("read-back");
-    for Input { name, text } in objects {
-        line(name, text, READ_BACK);
-    }
 }
 
 /// Prints both tables. Read-back is measured on the objects that compile gave, and on others.
@@ -110,6 +97,9 @@ pub fn report() {
     let mut objects = compile();
     objects.extend(objects::all());
     println!();
-    read_back(&objects);
+    let mut table = Table::new("read-back", "bytes");
+    for object in &objects {
+        line(&mut table, object, READ_BACK);
+    }
     println!();
 }

@@ -34,7 +34,10 @@ impl Call {
 }
 
 /// The cells of a statement before its end mark.
-const CELLS: usize = 255;
+const CELLS: usize = skimp::MOST_CELLS - 1;
+/// How many right operands in each other use all temporaries.
+const DEEPEST: usize = skimp::MOST_TEMPORARIES - 1;
+const LEVELS: usize = skimp::MOST_LEVELS;
 
 /// What may stand before an expression, and what closes it.
 const FORMS: [(&str, &str); 8] = [
@@ -90,7 +93,7 @@ fn statements() -> Vec<String> {
             }
             let room = CELLS - cells(start) - cells(end) - 1;
             let most = room / cells(&[open, close].concat());
-            for depth in [most, most.min(31), most.min(30)] {
+            for depth in [most, most.min(DEEPEST), most.min(DEEPEST - 1)] {
                 let (nested, closed) = (open.repeat(depth), close.repeat(depth));
                 statements.push(format!("{start}{nested}A{closed}{end}"));
             }
@@ -102,14 +105,14 @@ fn statements() -> Vec<String> {
 /// Groups in each other, as deep as may be and deeper, closed or left open, around a long statement.
 fn groups() -> Vec<String> {
     let mut groups = Vec::new();
-    for levels in [1, 15, 16, 17] {
+    for levels in [1, LEVELS - 1, LEVELS, LEVELS + 1] {
         for open in [
             "%IF A=A %THEN %START\n",
             "%IF A=A %THEN %START\n->1\n1:\n%FINISH %ELSE %START\n",
         ] {
             // a label is set once
             let open = open.to_string() + &open.replace("1:\n", "").repeat(levels - 1);
-            let chain = "A-(".repeat(31) + "A" + &")".repeat(31);
+            let chain = "A-(".repeat(DEEPEST) + "A" + &")".repeat(DEEPEST);
             let inside = format!("A={chain}\n");
             groups.push(open.clone() + &inside);
             groups.push(open + &inside + &"%FINISH\n".repeat(levels));
@@ -118,17 +121,37 @@ fn groups() -> Vec<String> {
     groups
 }
 
+/// As many names as there may be, and many more: of as many letters as fit, and of few, with as many
+/// as one statement takes behind them.
+fn names() -> Vec<String> {
+    let declared = |count: usize, letters: usize| {
+        let names = (0..count).map(|number| format!("%INTEGER N{number:0>letters$}\n"));
+        format!("%BEGIN\n{}", names.collect::<String>())
+    };
+    let most = skimp::MOST_VARIABLES;
+    // the bytes of `%INTEGER`, of the space, the N and the newline
+    let longest = |count: usize| skimp::SOURCE_MOST / count - 12;
+    let mut sources = vec![declared(63, 230), declared(most, longest(most))];
+    let list = vec!["A"; 124].join(",");
+    for count in [0, most - 1, most] {
+        sources.push(format!("{}%INTEGER {list}\n", declared(count, 3)));
+        let different: Vec<String> = (10..70).map(|number| format!("B{number}")).collect();
+        let list = different.join(",");
+        sources.push(format!("{}%INTEGER {list}\n", declared(count, 3)));
+    }
+    sources
+}
+
 fn sources() -> Vec<Vec<u8>> {
     let program = |text: String| format!("%BEGIN\n%INTEGER A\n{text}\n%ENDOFPROGRAM\n");
     let texts = statements().into_iter().chain(groups());
     let mut sources: Vec<String> = texts.map(program).collect();
     // full tables: names, labels, jumps; and cells in quotes up to the last
-    let names = (0..63).map(|number| format!("%INTEGER N{number:0>230}\n"));
-    sources.push(format!("%BEGIN\n{}", names.collect::<String>()));
-    let labels = (1..=64).map(|label| format!("{label}:->{label}\n"));
+    sources.extend(names());
+    let labels = (1..=skimp::MOST_LABELS).map(|label| format!("{label}:->{label}\n"));
     sources.push(program(labels.collect()));
-    sources.push(program(format!("1:{}", "->1\n".repeat(1023))));
-    sources.push(program(format!("A='{}'", ";\n".repeat(126))));
+    sources.push(program(format!("1:{}", "->1\n".repeat(ORDERS))));
+    sources.push(program(format!("A='{}'", ";\n".repeat(CELLS / 2 - 1))));
     sources.push(String::new());
     let mut sources: Vec<Vec<u8>> = sources.into_iter().map(String::into_bytes).collect();
     let mut random = Random(81);
@@ -136,13 +159,13 @@ fn sources() -> Vec<Vec<u8>> {
     sources
 }
 
-/// What orders may begin with.
+/// What orders may begin with. `stop` is the place of STOP, and `last` that of the order before it.
 const STARTS: [&str; 6] = [
     "LOAD D 2",
     "",
-    "LOAD D 2;CMP K 0;BNE A 1022",
+    "LOAD D 2;CMP K 0;BNE A last",
     "LOAD D 2;CMP K 0;BNE A 4;JMP A 0",
-    "LOAD D 2;CMP K 0;BNE A 5;JMP A 0;SKIP A 1023",
+    "LOAD D 2;CMP K 0;BNE A 5;JMP A 0;SKIP A stop",
     "LOAD D 2;STR D 3;LOAD D 2",
 ];
 
@@ -157,12 +180,12 @@ const PARTS: [&str; 18] = [
     "LOAD D 2",
     "STR D 2",
     "JMP A 0",
-    "SKIP A 1023",
+    "SKIP A stop",
     "BNE A 0",
     "CMP D 2",
     "SEND - 0",
-    "LOAD D 2;CMP K 0;BNE A 1023;JMP A 0",
-    "LOAD D 2;CMP K 0;BNE A 1023",
+    "LOAD D 2;CMP K 0;BNE A stop;JMP A 0",
+    "LOAD D 2;CMP K 0;BNE A stop",
     "STR D 3;LOAD D 2;NEG - 0;STR D 4;LOAD D 3;SUB D 4",
     "STR D 3;STR D 4;LOAD D 3;SUB D 4",
     "STR D 4;LOAD D 3;SUB D 4",
@@ -173,15 +196,15 @@ const ENDS: [&str; 8] = [
     "STR D 2",
     "SEND - 0",
     "",
-    "CMP K 0;BNE A 1023;JMP A 0",
-    "CMP K 0;BNE A 1022;SKIP A 1023;JMP A 0",
-    "CMP K 0;BNE A 1022;LOAD K 1;SEND - 0",
+    "CMP K 0;BNE A stop;JMP A 0",
+    "CMP K 0;BNE A last;SKIP A stop;JMP A 0",
+    "CMP K 0;BNE A last;LOAD K 1;SEND - 0",
     "STR D 4;LOAD D 3;SUB D 4;STR D 2",
-    "STR D 4;LOAD D 3;CMP D 4;BNE A 1023;JMP A 0",
+    "STR D 4;LOAD D 3;CMP D 4;BNE A stop;JMP A 0",
 ];
 
 /// The orders before STOP.
-const ORDERS: usize = 1023;
+const ORDERS: usize = skimp::MOST_ORDERS - 1;
 
 /// One variable, and temporaries from word 3.
 fn object(temporaries: usize, orders: &[String]) -> Vec<u8> {
@@ -192,8 +215,11 @@ fn object(temporaries: usize, orders: &[String]) -> Vec<u8> {
 
 /// The orders of a part.
 fn orders(part: &str) -> Vec<String> {
+    let (stop, last) = (ORDERS.to_string(), (ORDERS - 1).to_string());
     let parts = part.split(';').filter(|order| !order.is_empty());
-    parts.map(str::to_string).collect()
+    parts
+        .map(|order| order.replace("stop", &stop).replace("last", &last))
+        .collect()
 }
 
 /// One order over and over.
@@ -210,18 +236,25 @@ fn objects() -> Vec<Vec<u8>> {
                 let rest = times("NEG - 0", left % part.len());
                 let parts = vec![part.clone(); left / part.len()].concat();
                 let all = [start.clone(), rest, parts, end].concat();
-                objects.extend([0, 2, 32].map(|temporaries| object(temporaries, &all)));
+                let temporaries = [0, 2, skimp::MOST_TEMPORARIES];
+                objects.extend(temporaries.map(|temporaries| object(temporaries, &all)));
             }
         }
     }
-    for depth in 1..=31 {
+    for depth in 1..=DEEPEST {
         objects.extend([0, 1, 2].map(|place| nested(depth, place)));
     }
-    for levels in [1, 15, 16, 17, 200] {
+    for levels in [1, LEVELS - 1, LEVELS, LEVELS + 1, 200] {
         objects.extend([inner_parts(levels), skips(levels)]);
     }
     let mut random = Random(82);
-    for _ in 0..300 {
+    let most = [skimp::MOST_VARIABLES, skimp::MOST_TEMPORARIES, ORDERS + 1];
+    for one in [false, true] {
+        let sheet = Plan::exact_sheet(&mut random, most.map(|size| size as u32), one);
+        let translation = translate(&sheet).expect("within the limits");
+        objects.push(translation.text().into_bytes());
+    }
+    for _ in 0..200 {
         let sheet = Plan::large_sheet(&mut random);
         let mut translation = translate(&sheet).expect("within the limits");
         objects.push(translation.text().into_bytes());
@@ -233,7 +266,7 @@ fn objects() -> Vec<Vec<u8>> {
 
 /// Conditions in each other, all of whose parts end together, around a chain of all other orders.
 fn inner_parts(levels: usize) -> Vec<u8> {
-    let mut all = orders(&"LOAD D 2;CMP K 0;BNE A 1023;".repeat(levels));
+    let mut all = orders(&"LOAD D 2;CMP K 0;BNE A stop;".repeat(levels));
     all.push("LOAD D 2".to_string());
     all.extend(times("NEG - 0", ORDERS - all.len() - 1));
     all.push("STR D 2".to_string());

@@ -14,7 +14,7 @@ use region::Region;
 const SEGMENTATION_FAULT: i32 = 11;
 
 /// Each call needs less.
-const MOST_BYTES: usize = 64 * 1024;
+const MOST_BYTES: usize = 96 * 1024;
 
 /// Names the call and the bytes of stack in the environment of the process that tries them.
 const CALL: &str = "SKIMP_STACK_CALL";
@@ -42,7 +42,7 @@ impl Buffers {
         let number = |field: &[u8]| String::from_utf8_lossy(field).parse().unwrap_or(0);
         let frame: usize = header.skip(1).take(2).map(number).sum();
         self.state.clear();
-        self.state.resize(20 + 4 * (2 + frame), 0);
+        self.state.resize(skimp::state_bytes(frame, 0), 0);
         let mut reply = None;
         stack.call(&mut || {
             reply = Some(match call {

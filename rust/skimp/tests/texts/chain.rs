@@ -103,6 +103,70 @@ fn from_large_sources() {
     }
 }
 
+/// All variables are set and sent from the last to the first, so many of them as there is room for,
+/// and jumps fill the program up to so many orders.
+fn with_variables(count: usize, orders: usize) -> String {
+    let name = |number: usize| format!("V{number}");
+    let names: Vec<String> = (0..count).map(name).collect();
+    let lists = names.chunks(32);
+    let lists = lists.map(|list| format!("%INTEGER {}\n", list.join(",")));
+    let sets = (0..count).map(|number| format!("V{number}={number}-V{}\n", count - 1 - number));
+    let sends = (0..count).rev().map(|number| format!("SEND(V{number})\n"));
+    let body = sets.chain(sends).collect::<String>();
+    // five orders of each, and STOP
+    let jumps = "->1\n".repeat(orders - 5 * count - 1);
+    let lists = lists.collect::<String>();
+    format!("%BEGIN\n{lists}{body}{jumps}1:\n%ENDOFPROGRAM\n")
+}
+
+/// A program whose jumps lead far: to the label that stands before an instruction of a number, or
+/// behind the last.
+fn with_far_label(count: usize, number: usize) -> String {
+    let (before, behind) = (number - 1, count + 1 - number);
+    let jumps = |count: usize| "->7\n".repeat(count);
+    let (first, last) = (jumps(before), jumps(behind));
+    format!("%BEGIN\n{first}7:\n{last}%ENDOFPROGRAM\n")
+}
+
+/// Jumps, and behind them groups in each other that end with the program, of so many orders with STOP
+/// in all. A label behind each first part leads over all second parts to the end.
+fn with_far_groups(levels: usize, orders: usize) -> String {
+    let jumps = "->99\n".repeat(orders - 1 - 5 * levels - 1);
+    let open = "%IF 1=1 %THEN %START\n".repeat(levels);
+    let close = |level| format!("{level}:\n%FINISH %ELSE %START\n->1\n%FINISH\n");
+    let closed: String = (1..=levels).map(close).collect();
+    format!("%BEGIN\n{jumps}99:{open}->{levels}\n{closed}%ENDOFPROGRAM\n")
+}
+
+/// Programs of all variables and orders that there may be, of one less, and of about half of them.
+#[test]
+fn at_the_limits() {
+    let name = "at the limits";
+    let mut chain = Chain::new();
+    let mut hold = |source: String, room: usize| {
+        let sheet = skimp_reference::source::read(source.as_bytes());
+        let sheet = sheet.unwrap_or_else(|refusal| panic!("{refusal:?}: {source}"));
+        chain.hold(name, &sheet, source.as_bytes(), room);
+    };
+    for orders in [1023, 1024, 1025, 2047, 2048] {
+        for variables in [63, 64, 65, 127, 128] {
+            hold(with_variables(variables, orders), variables);
+        }
+        let count = orders - 1;
+        for number in [1, 2, count / 2, 1022, 1023, count - 1, count, count + 1] {
+            hold(with_far_label(count, number.min(count + 1)), 0);
+        }
+        for levels in [1, 2, 15, 16] {
+            hold(with_far_groups(levels, orders), 0);
+        }
+    }
+    let census = &chain.census;
+    assert_eq!(census.with_orders(2048), 17, "{name}");
+    assert_eq!(census.with_variables(128), 5, "{name}");
+    assert_eq!(census.with_depth(16), 5, "{name}");
+    assert!(census.with_instructions(2047) >= 8, "{name}");
+}
+
 /// Sheets whether a source can have them or not.
 #[test]
 fn from_sheets() {

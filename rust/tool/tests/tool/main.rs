@@ -5,6 +5,7 @@ mod commands;
 mod compare;
 mod files;
 mod killed;
+mod limits;
 mod readme;
 mod refusals;
 mod run;
