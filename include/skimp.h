@@ -90,14 +90,14 @@ enum skimp_run_number {
 #define SKIMP_SHEET_MOST (32 * SKIMP_MOST_ORDERS)
 
 /* The stack that a call needs: its own frame and all below it. These numbers are not proved but measured, on the inputs found
- * to need most and the archive built for x86-64, with a twentieth more at least and in whole KiB. Each is under 96 KiB. Compile
- * needs most, some 57,000 bytes, and read-back, some 50,000, for an expression of many temporaries inside groups; a run needs
- * some 9,200 bytes whatever the object. A task that makes a call must have a stack of as many bytes to spare. */
-#define SKIMP_COMPILE_STACK_BYTES 97280
-#define SKIMP_READ_BACK_STACK_BYTES 97280
-#define SKIMP_RUN_STACK_BYTES 18432
+ * to need most and the archive built for x86-64, with a twentieth more at least and in whole KiB. Each is under 96 KiB.
+ * Read-back needs most, some 87,100 bytes, and compile, some 77,400, for an expression of many temporaries inside groups; a run
+ * needs some 17,700 bytes whatever the object. A task that makes a call must have a stack of as many bytes to spare. */
+#define SKIMP_COMPILE_STACK_BYTES 81920
+#define SKIMP_READ_BACK_STACK_BYTES 92160
+#define SKIMP_RUN_STACK_BYTES 19456
 /* enough for every call */
-#define SKIMP_STACK_BYTES 97280
+#define SKIMP_STACK_BYTES 92160
 
 /* Compiles a source: writes the text of its object into the front of `object`.
  *

@@ -73,11 +73,11 @@ pub const fn state_bytes(variables: usize, temporaries: usize) -> usize {
 }
 
 /// A stack of so many bytes is enough for a call, as measured on its worst inputs, with a twentieth more at least.
-pub const COMPILE_STACK_BYTES: usize = 95 * 1024;
-pub const READ_BACK_STACK_BYTES: usize = 95 * 1024;
-pub const RUN_STACK_BYTES: usize = 18 * 1024;
+pub const COMPILE_STACK_BYTES: usize = 80 * 1024;
+pub const READ_BACK_STACK_BYTES: usize = 90 * 1024;
+pub const RUN_STACK_BYTES: usize = 19 * 1024;
 /// A stack of so many bytes is enough for every call.
-pub const STACK_BYTES: usize = COMPILE_STACK_BYTES;
+pub const STACK_BYTES: usize = READ_BACK_STACK_BYTES;
 
 /// What a call replies: document 01's number with the length of the text, with the steps, or with
 /// the place of a refusal.

@@ -241,8 +241,10 @@ fn objects() -> Vec<Vec<u8>> {
             }
         }
     }
-    for depth in 1..=DEEPEST {
-        objects.extend([0, 1, 2].map(|place| nested(depth, place)));
+    for levels in [0, LEVELS - 1, LEVELS] {
+        for depth in 1..=DEEPEST {
+            objects.extend([0, 1, 2].map(|place| nested(levels, depth, place)));
+        }
     }
     for levels in [1, LEVELS - 1, LEVELS, LEVELS + 1, 200] {
         objects.extend([inner_parts(levels), skips(levels)]);
@@ -264,9 +266,14 @@ fn objects() -> Vec<Vec<u8>> {
     objects
 }
 
-/// Conditions in each other, all of whose parts end together, around a chain of all other orders.
+/// Conditions in each other, all of whose parts end with the program.
+fn conditions(levels: usize) -> Vec<String> {
+    orders(&"LOAD D 2;CMP K 0;BNE A stop;".repeat(levels))
+}
+
+/// Conditions around a chain of all other orders.
 fn inner_parts(levels: usize) -> Vec<u8> {
-    let mut all = orders(&"LOAD D 2;CMP K 0;BNE A stop;".repeat(levels));
+    let mut all = conditions(levels);
     all.push("LOAD D 2".to_string());
     all.extend(times("NEG - 0", ORDERS - all.len() - 1));
     all.push("STR D 2".to_string());
@@ -290,14 +297,13 @@ fn skips(levels: usize) -> Vec<u8> {
     object(0, &all)
 }
 
-/// The translation of an expression that nests to the right, the orders that are left as a chain in
-/// its left operand, inside, or behind it.
-fn nested(depth: usize, place: usize) -> Vec<u8> {
-    let chain = |here: usize| {
-        let count = ORDERS - 5 * depth - 3;
-        times("NEG - 0", if here == place { count } else { 0 })
-    };
-    let mut all = orders("LOAD D 2");
+/// The translation of an expression that nests to the right, in so many conditions, the orders that
+/// are left as a chain in its left operand, inside, or behind it.
+fn nested(levels: usize, depth: usize, place: usize) -> Vec<u8> {
+    let mut all = conditions(levels);
+    let left = ORDERS - all.len() - 5 * depth - 3;
+    let chain = |here: usize| times("NEG - 0", if here == place { left } else { 0 });
+    all.push("LOAD D 2".to_string());
     all.extend(chain(0));
     for level in 0..depth {
         all.push(format!("STR D {}", 3 + level));

@@ -60,7 +60,7 @@ fn constants_of_the_header() {
     assert!(other.is_err_and(|says| says.contains("SKIMP_STATE_HEADER is not 21")));
     assert_eq!([skimp::OBJECT_MOST, skimp::SHEET_MOST], [36_901, 65_536]);
     assert_eq!(skimp::STATE_MOST, 668);
-    for bytes in [skimp::READ_BACK_STACK_BYTES, skimp::RUN_STACK_BYTES] {
+    for bytes in [skimp::COMPILE_STACK_BYTES, skimp::RUN_STACK_BYTES] {
         assert!(bytes <= skimp::STACK_BYTES);
     }
 }
