@@ -65,6 +65,40 @@ fn groups_in_the_manual() {
     assert!(rest.contains("It sends 124, 123 and -122."));
 }
 
+/// The limits that the manual names are those of the calls.
+#[test]
+fn limits_in_the_manual() {
+    let manual = text("docs/MANUAL.md");
+    let thousands = |number: usize| format!("{},{:03}", number / 1000, number % 1000);
+    let variables = format!("{} variables", skimp::MOST_VARIABLES);
+    let orders = format!("{} orders", thousands(skimp::MOST_ORDERS));
+    let temporaries = format!("{} temporaries", skimp::MOST_TEMPORARIES);
+    let labels = format!("{} labels", skimp::MOST_LABELS);
+    let levels = format!("{} deep", skimp::MOST_LEVELS);
+    let cells = format!("{} characters", skimp::MOST_CELLS - 1);
+    let bytes = format!("{} bytes", thousands(skimp::SOURCE_MOST));
+    let greatest = format!("over {}", skimp::GREATEST_LABEL);
+    for (start, limits) in [
+        ("Limits: ", vec![&bytes, &cells, &labels, &levels]),
+        ("Limits: ", vec![&variables, &orders, &temporaries]),
+        ("| 1 | 0", vec![&bytes]),
+        ("| 4 | the statement", vec![&cells]),
+        ("| 9 | the statement", vec![&greatest]),
+        ("| 11 | the statement", vec![&labels, &levels]),
+        (
+            "| 11 | the statement",
+            vec![&variables, &orders, &temporaries],
+        ),
+        ("| 21 | 0", vec![&variables, &orders, &temporaries]),
+    ] {
+        let line = manual.lines().find(|line| line.starts_with(start));
+        let line = line.unwrap_or_else(|| panic!("no line begins with {start}"));
+        for limit in limits {
+            assert!(line.contains(limit), "{limit}: {line}");
+        }
+    }
+}
+
 /// What a program of one statement after another, with variables A and B, sends.
 fn sent(statements: &str) -> Vec<i64> {
     let session = Session::new();
