@@ -151,7 +151,7 @@ fn variables(random: &mut Random) -> Vec<u8> {
         3 => names.push(String::new()),
         _ => {}
     }
-    let longest = random.pick(&[1, 16, 32, 63, 64, 65, 70, 91]);
+    let longest = random.pick(&[1, 16, 32, 64, 83, 91]);
     let mut source = String::from("%BEGIN\n");
     for list in names.chunks(longest) {
         source += &format!("%INTEGER {}\n", list.join(","));
@@ -197,7 +197,7 @@ fn labels(random: &mut Random) -> Vec<u8> {
         2 => labels.push(random.pick(&[0, GREATEST_LABEL + 1])),
         _ => {}
     }
-    let longest = random.pick(&[1, 8, 62, 64, 70]);
+    let longest = random.pick(&[1, 8, MOST_LABELS - 2, MOST_LABELS, MOST_LABELS + 6]);
     let mut source = String::new();
     for part in labels.chunks(longest) {
         let before = match source.is_empty() {

@@ -5,6 +5,7 @@ use skimp_reference::census::Census;
 use skimp_reference::count::counts;
 use skimp_reference::generate::Plan;
 use skimp_reference::random::Random;
+use skimp_reference::run;
 use skimp_reference::sheet::Sheet;
 use skimp_reference::translate::{translate, without_limits};
 use skimp_reference::untranslate::untranslate;
@@ -108,6 +109,30 @@ fn limits() {
     assert_eq!(census.with_temporaries(32), 250);
     assert_eq!(census.with_variables(128), 150);
     assert!(census.with_instructions(1) >= 5);
+}
+
+/// "header not of the form or over a limit"
+#[test]
+fn limits_of_headers() {
+    let number = |[variables, temporaries, orders]: [usize; 3]| {
+        let others = "NEG\t-\t0\n".repeat(orders - 1);
+        let header = format!("BOX\t{variables}\t{temporaries}\t{orders}\n");
+        let object = format!("{header}{others}STOP\t-\t0\n");
+        let mut state = vec![0; 20 + 4 * (2 + variables + temporaries)];
+        run(object.as_bytes(), &mut state, &mut [], 10_000).number
+    };
+    for within in [
+        [63, 31, 1023],
+        [64, 32, 1024],
+        [65, 32, 1025],
+        [127, 31, 2047],
+        [128, 32, 2048],
+    ] {
+        assert_eq!(number(within), 20, "{within:?}");
+    }
+    for over in [[129, 32, 2048], [128, 33, 2048], [128, 32, 2049]] {
+        assert_eq!(number(over), 21, "{over:?}");
+    }
 }
 
 /// The reference's own call with buffers of every length.

@@ -108,7 +108,7 @@ fn by_the_archive() {
     for _ in 0..6_000 {
         let (_, source) = writing::source(&mut random);
         // room for the change
-        if source.len() < 16_000 && skimp::compile(&source, &mut buffer).is_ok() {
+        if source.len() + 2 <= skimp::SOURCE_MOST && skimp::compile(&source, &mut buffer).is_ok() {
             sources += 1;
             statements += counted_by_the_archive(&source);
         }
