@@ -21,7 +21,7 @@ use Rattle.translate_size.specs.declared.Size.{Size}
 use Rattle.translate_size.specs.Answers.{SizeOf}
 use Rattle.source.specs.Grammar.{Instruction, simple, ifThen, ifElse, ifStart}
 use Rattle.source.specs.Fields.{instructionFields}
-use Rattle.source.specs.Program.{Program, Outcome, refused, Group, first, countOutside, ordersOutside, ordersSoFar, nextNumber, jump, moved, arrived}
+use Rattle.source.specs.Program.{Program, Outcome, refused, Group, first, countOutside, ordersOutside, ordersSoFar, ordersWithStop, nextNumber, jump, moved, arrived}
 use Rattle.source.specs.Program.{jumpsIn, all, isLabel, level, temporariesIn, placed, groupsOf, listOf, placing, withFewTemporaries, withFewLevels, withFewOrders}
 use Rattle.labels.specs.Memory.{instructionNumbers}
 use Rattle.labels.proofs.Finding.{labels-arrived, so-far-later}
@@ -160,8 +160,8 @@ module _ {q : Program} {p : Progress} {ns : NameTable} {ls gs fs : List ℕ} (h 
     unfolding pick
     over-orders few g =
         let s = sized own i z (is .its-fields) size-too v in
-        let u : mostOrders < suc (ordersSoFar (placing k i q)) = omega (arith, g, s .its-orders, total, h .its-fields .few-orders) in
-        comes-refused 11 k (few-temporaries few rest ∙ over (rw (lt-ltb mostOrders (suc (ordersSoFar (placing k i q))) u) refl))
+        let u : mostOrders < ordersWithStop (placing k i q) = omega (arith, g, s .its-orders, total, h .its-fields .few-orders) in
+        comes-refused 11 k (few-temporaries few rest ∙ over (rw (lt-ltb mostOrders (ordersWithStop (placing k i q)) u) refl))
 
     pub over-levels : z .temporaries ≤ mostTemporaries → (t : Bool) → t ≡ tooDeep opens (z .instructions) (p .groups) → t ≡ true → Comes P G (Refused 11 k) (withFewTemporaries k i rest)
     unfolding pick
@@ -265,7 +265,7 @@ module _ {q : Program} {p : Progress} {ns : NameTable} {ls gs fs : List ℕ} (h 
           (withFewTemporaries k i rest)
       unfolding pick
       comes-placed =
-          let u : suc (ordersSoFar (placing k i q)) ≤ mostOrders = omega (arith, total, few-orders, h .its-fields .few-orders) in
+          let u : ordersWithStop (placing k i q) ≤ mostOrders = omega (arith, total, few-orders, h .its-fields .few-orders) in
           comes-further (placing k i q) _
-          (few-temporaries few rest ∙ rw (sym deep ∙ sym known ∙ fits, le-ltb mostOrders (suc (ordersSoFar (placing k i q))) u) refl)
+          (few-temporaries few rest ∙ rw (sym deep ∙ sym known ∙ fits, le-ltb mostOrders (ordersWithStop (placing k i q)) u) refl)
           (record { staged = refl; its-names = h .its-names; its-labels = labels-too; its-groups = groups-too; its-fields = fields-too })

@@ -14,7 +14,7 @@ use Rattle.sheet.specs.declared.Field.the-variants.{Else, Finish}
 use Rattle.sheet.specs.Sheet.{Part, end, when, either, Condition, count, Sheet}
 use Rattle.sheet.specs.Translation.{size}
 use Rattle.sheet_field.specs.Memory.{fieldsFrom}
-use Rattle.source.specs.Program.{Program, refused, Group, first, second, append, countOutside, ordersOutside, ordersSoFar}
+use Rattle.source.specs.Program.{Program, refused, Group, first, second, append, countOutside, ordersOutside, ordersWithStop}
 use Rattle.source.specs.Program.{moved, putOff, takenUp, withFewOrders, regrouped, finishing, alternating}
 use Rattle.labels.specs.Answers.{Fits, PutsOff, TakesUp}
 use Rattle.groups.specs.Memory.{groupWord, beganIn, partIn, GroupsHeld}
@@ -277,8 +277,8 @@ module _ {q : Program} {p : Progress} {ns : NameTable} {ls gs fs : List ℕ} (h 
   pub second-over : {P : Program → Progress → Type 0} {G : Sheet → Type 0} → mostOrders - p .orders ≤ 1 → Comes P G (Refused 11 k) (withFewOrders k nowRead)
   unfolding pick
   second-over g =
-      let u : mostOrders < suc (ordersSoFar nowRead) = omega (arith, g, second-total (length (q .names)), counts .few-orders) in
-      comes-refused 11 k (rw (lt-ltb mostOrders (suc (ordersSoFar nowRead)) u) refl)
+      let u : mostOrders < ordersWithStop nowRead = omega (arith, g, second-total (length (q .names)), counts .few-orders) in
+      comes-refused 11 k (rw (lt-ltb mostOrders (ordersWithStop nowRead) u) refl)
 
   some : 1 ≤ length (q .groups)
   some = let n = ap length is in omega (arith, n)
@@ -349,5 +349,5 @@ module _ {q : Program} {p : Progress} {ns : NameTable} {ls gs fs : List ℕ} (h 
       pub comes-second : Comes (λ o n. Holds o n ns labels-too array after) NoSheet (Further nowSecond) (withFewOrders k nowRead)
       unfolding pick
       comes-second =
-          let u : suc (ordersSoFar nowRead) ≤ mostOrders = omega (arith, g, second-total (length (q .names))) in
-          comes-further nowRead _ (rw (le-ltb mostOrders (suc (ordersSoFar nowRead)) u) refl) second-holds
+          let u : ordersWithStop nowRead ≤ mostOrders = omega (arith, g, second-total (length (q .names))) in
+          comes-further nowRead _ (rw (le-ltb mostOrders (ordersWithStop nowRead) u) refl) second-holds

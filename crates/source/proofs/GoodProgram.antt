@@ -22,7 +22,7 @@ use Rattle.source.specs.Program.{Stage, nothing, declarations, instructi
 use Rattle.source.specs.Program.{Group, first, second, Program, nothingRead, append, countOutside, nextNumber, ordersOutside, ordersSoFar}
 use Rattle.source.specs.Program.{Outcome, refused, further, given, knownSimple, knownCondition, known, lookedUp, namesIn, canDeclare, declaring, declare}
 use Rattle.source.specs.Program.{isLabel, labelsSet, canSet, moved, arrived, putOff, takenUp, simpleJumps, jumpsIn, all, setting, alone, placed, groupsOf, listOf, placing}
-use Rattle.source.specs.Program.{level, temporariesIn, labelling, instructing, regrouped, finishing, alternating}
+use Rattle.source.specs.Program.{level, temporariesIn, ordersWithStop, labelling, instructing, regrouped, finishing, alternating}
 use Rattle.source.specs.Program.{Unset, unset, allSet, firstUnset, numberOf, sheetOf, finished, closed, opened, inOrder, onLexed, statement}
 use Rattle.source.proofs.Each.{Each, each-append, each-map}
 use Rattle.source.proofs.SmallCells.{Small}
@@ -231,12 +231,12 @@ module _ (p : Program) (g : Good p) where
       (λ y. tt)
       (λ few. either-part OutcomeGood (ltb mostLevels (level (p .groups) i)) _ _
       (λ y. tt)
-      (λ levels. either-part OutcomeGood (ltb mostOrders (suc (ordersSoFar (placing k i q)))) _ _
+      (λ levels. either-part OutcomeGood (ltb mostOrders (ordersWithStop (placing k i q))) _ _
       (λ y. tt)
-      (λ within. placing-good q (setting-good p g ls) k i h known
+      (λ within. let orders = ltb-false mostOrders (ordersWithStop (placing k i q)) within in placing-good q (setting-good p g ls) k i h known
       (ltb-false mostTemporaries (temporariesIn i) few)
       (ltb-false mostLevels (level (p .groups) i) levels)
-      (ltb-false mostOrders (suc (ordersSoFar (placing k i q))) within))))))
+      (omega (arith, orders)))))))
       (λ n. tt))
       (λ n. tt))
       (λ n. tt)
@@ -318,12 +318,12 @@ module _ (p : Program) (g : Good p) where
       let q = regrouped p (putOff (length gs)) (second k x c (p .here) ∷ gs) end in
       either-part OutcomeGood (eqb (count (p .here)) 0) _ _
       (λ y. tt)
-      (λ n. either-part OutcomeGood (ltb mostOrders (suc (ordersSoFar q))) _ _
+      (λ n. either-part OutcomeGood (ltb mostOrders (ordersWithStop q)) _ _
       (λ y. tt)
-      (λ few. regrouped-good (first j x c) gs e (putOff (length gs)) (second k x c (p .here) ∷ gs) end
+      (λ few. let orders = ltb-false mostOrders (ordersWithStop q) few in regrouped-good (first j x c) gs e (putOff (length gs)) (second k x c (p .here) ∷ gs) end
       (o .round .0, o .round .1, some (p .here) n, o .inside, o .round .2)
       (good-end (omega arith))
-      (ltb-false mostOrders (suc (ordersSoFar q)) few)
+      (omega (arith, orders))
       (moved-lead _ _ (putOff (length gs)) (put-off-leads _ _ (omega arith) (length gs)) (p .set) (o .lead))))
   alternating-good k (second j x c y ∷ gs) e = tt
 

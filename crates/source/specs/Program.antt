@@ -294,8 +294,11 @@ abbrev pub withFewLabels : ℕ → Program → Outcome → Outcome
 withFewLabels k p o = pick (ltb mostLabels (length (p .set))) (refused 11 k) o
 
 -- "Orders are over at the first statement where those so far and STOP pass" the limit
+abbrev pub ordersWithStop : Program → ℕ
+ordersWithStop p = ordersSoFar p + 1
+
 abbrev pub withFewOrders : ℕ → Program → Outcome
-withFewOrders k p = pick (ltb mostOrders (suc (ordersSoFar p))) (refused 11 k) (further p)
+withFewOrders k p = pick (ltb mostOrders (ordersWithStop p)) (refused 11 k) (further p)
 
 abbrev pub withFewTemporaries : ℕ → Instruction → Outcome → Outcome
 withFewTemporaries k i o = pick (ltb mostTemporaries (temporariesIn i)) (refused 11 k) o
