@@ -32,7 +32,8 @@ fn most_letters(declared: usize, sent: usize) -> usize {
     MOST_DECLARED.min((ROOM - around) / (declared + sent))
 }
 
-/// One below the most, at it and one above it, and about half of it, each with any number of sends.
+/// One below the most, at it and one above it, and about half of it, with no send up to one for each
+/// name; of the larger every second number of sends.
 #[test]
 fn declared_and_sent() {
     let mut tries = Tries::new(66);
