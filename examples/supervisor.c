@@ -80,7 +80,8 @@ static const char *refusal(uint32_t number) {
     case SKIMP_NO_END: return "no %ENDOFPROGRAM, statements read";
     case SKIMP_OVER_LIMIT:
         return "over " TEXT(SKIMP_MOST_VARIABLES) " variables, " TEXT(SKIMP_MOST_LABELS) " labels, " TEXT(SKIMP_MOST_LEVELS)
-               " levels, " TEXT(SKIMP_MOST_TEMPORARIES) " temporaries or " TEXT(SKIMP_MOST_ORDERS) " orders, statement";
+               " levels, " TEXT(SKIMP_MOST_COMPARISONS) " comparisons, " TEXT(SKIMP_MOST_TEMPORARIES) " temporaries or "
+               TEXT(SKIMP_MOST_ORDERS) " orders, statement";
     case SKIMP_OBJECT_TOO_SHORT: return "the buffer is too short for the object, place";
     case SKIMP_BAD_GROUP: return "a group is left open, or %FINISH closes none, statement";
     case SKIMP_BAD_HEADER: return "the header is not of the form or over a limit, place";

@@ -25,6 +25,8 @@ extern "C" {
 #define SKIMP_GREATEST_LABEL 9999
 /* IFs in each other, of a sheet too */
 #define SKIMP_MOST_LEVELS 16
+/* comparisons of one IF, of a sheet too */
+#define SKIMP_MOST_COMPARISONS 16
 /* cells of a statement, its end mark included */
 #define SKIMP_MOST_CELLS 256
 /* bytes of a source */
@@ -91,13 +93,13 @@ enum skimp_run_number {
 
 /* The stack that a call needs: its own frame and all below it. These numbers are not proved but measured, on the inputs found
  * to need most and the archive built for x86-64, with a twentieth more at least and in whole KiB. Each is under 96 KiB.
- * Read-back needs most, some 87,100 bytes, and compile, some 77,400, for an expression of many temporaries inside groups; a run
- * needs some 17,700 bytes whatever the object. A task that makes a call must have a stack of as many bytes to spare. */
-#define SKIMP_COMPILE_STACK_BYTES 81920
-#define SKIMP_READ_BACK_STACK_BYTES 92160
+ * Read-back needs most, some 91,900 bytes, and compile, some 82,900, for an expression of many temporaries inside conditions and
+ * groups; a run needs some 17,800 bytes whatever the object. A task that makes a call must have a stack of as many bytes to spare. */
+#define SKIMP_COMPILE_STACK_BYTES 87040
+#define SKIMP_READ_BACK_STACK_BYTES 97280
 #define SKIMP_RUN_STACK_BYTES 19456
 /* enough for every call */
-#define SKIMP_STACK_BYTES 92160
+#define SKIMP_STACK_BYTES 97280
 
 /* Compiles a source: writes the text of its object into the front of `object`.
  *
@@ -116,7 +118,8 @@ enum skimp_run_number {
  *    9  a label is 0 or over SKIMP_GREATEST_LABEL, set twice, or never set: the statement; for one that is never set, that of
  *       the first jump
  *   10  there is no %ENDOFPROGRAM: the number of statements read
- *   11  more variables, set labels, levels of IF, temporaries, or orders with STOP than the limits above: the statement
+ *   11  more variables, set labels, levels of IF, comparisons in one IF, temporaries, or orders with STOP than the limits
+ *       above: the statement
  *   12  the buffer is too short for the object, and all else is well: place 0
  *   13  a %FINISH closes no group: the statement; or a group is open at %ENDOFPROGRAM: the statement of the first such %START
  * Statements count from 1; those of nothing are not counted. */

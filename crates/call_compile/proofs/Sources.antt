@@ -8,7 +8,7 @@ use lib.Seq.{length-take-le}
 use Rattle.sheet.specs.declared.Field.{Field}
 use Rattle.sheet.specs.Sheet.{Sheet}
 use Rattle.sheet.specs.Within.{Within}
-use Rattle.sheet.specs.Fields.{sheetFields}
+use Rattle.sheet.specs.Memory.{sheetFields}
 use Rattle.sheet.proofs.Lengths.{sheet-few}
 use Rattle.sheet_field.specs.Memory.{fieldsFrom, mostFields}
 use Rattle.sheet_field.proofs.Stored.{fields-length, fields-front}

@@ -10,7 +10,7 @@ use Rattle.order.specs.Memory.{ordersIn}
 use Rattle.order.specs.Object.{text}
 use Rattle.order.proofs.Arrays.{good-narrow, array-holds}
 use Rattle.sheet.specs.Sheet.{Part, Sheet, sheet, variables}
-use Rattle.sheet.specs.Fields.{sheetFields}
+use Rattle.sheet.specs.Memory.{sheetFields}
 use Rattle.sheet.specs.Within.{Within}
 use Rattle.sheet.specs.Translation.{translation, temporariesOf, objectText}
 use Rattle.sheet.proofs.GoodObject.{translation-good}

@@ -8,7 +8,7 @@ use Rattle.order.specs.Memory.{ordersIn}
 use Rattle.order.specs.Object.{text}
 use Rattle.sheet.specs.Sheet.{Sheet, variables}
 use Rattle.sheet.specs.Within.{Within}
-use Rattle.sheet.specs.Fields.{sheetFields}
+use Rattle.sheet.specs.Memory.{sheetFields}
 use Rattle.sheet.specs.Translation.{objectText}
 use Rattle.sheet_field.specs.Memory.{fieldsAt, mostFields}
 use Rattle.call.specs.Reply.{wrote, textWriting}

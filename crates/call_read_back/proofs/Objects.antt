@@ -14,7 +14,7 @@ use Rattle.order.specs.Memory.{orderWord}
 use Rattle.order.specs.Object.{Reading, object, refused, reading, linesOf}
 use Rattle.order.proofs.RoundTrip.{read-good, lines-read}
 use Rattle.sheet.specs.Sheet.{Sheet, sheet, count, instructions, variables}
-use Rattle.sheet.specs.Fields.{sheetFields}
+use Rattle.sheet.specs.Memory.{sheetFields}
 use Rattle.sheet.specs.ReadBack.{Given, given, none, untranslate}
 use Rattle.sheet.proofs.ReadBack.{given-translates}
 use Rattle.sheet_field.specs.Memory.{fieldsAt, mostFields}
@@ -47,12 +47,13 @@ module _ (ws : List ℕ) (v t : ℕ) (zeros : List ℕ) (long : length zeros ≡
       let both : Read k n ≡ Read (count (instructions s)) (length (sheetFields s)) = sym e ∙ h .0 in
       let counted : k ≡ count (instructions s) = cc in
       let many : n ≡ length (sheetFields s) = cc in
+      let translates = given-translates v t os s fine is in
       let memory : InMemory s (take n fields) v k = record {
         fields = ap (λ j. fieldsAt 0 (take j fields)) many ∙ h .1;
-        its-variables = given-translates v t os s fine is .1;
+        its-variables = translates .1;
         its-instructions = sym counted;
       } in
-      written ∙ ap (λ l. textWriting 32 l before) (flat-memory s (take n fields) v k memory)
+      written ∙ ap (λ l. textWriting 32 l before) (flat-memory s (take n fields) v k (translates .0) memory)
 
   pub sheet-call :
       (k n : ℕ) (before : List ℕ) (r : ℕ) (after : List ℕ)

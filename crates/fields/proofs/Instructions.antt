@@ -10,10 +10,11 @@ use lib.Dec.{leb, eqb}
 use Rattle.base.specs.Choice.{pick}
 use Rattle.base.proofs.Cases.{both-yes, chosen-second}
 use Rattle.sheet.specs.declared.Field.{Field}
-use Rattle.sheet.specs.declared.Field.the-variants.{Else, Start, Finish, If, Send, Neg, Not, Binary, Compare, Word, Constant, Set, Goto}
+use Rattle.sheet.specs.declared.Field.the-variants.{Else, Start, Finish, If, Send, Neg, Not, Binary, Compare, Word, Constant, Set, Goto, Run}
 use Rattle.sheet.specs.Sheet.{Expression, word, constant, negated, inverted, binary, Simple, set, send, goto}
-use Rattle.sheet.specs.Sheet.{Condition, compares, Part, end, plain, when, either, retarget, retargetPart}
-use Rattle.sheet.specs.Fields.{expressionFields, simpleFields, conditionFields, partFields}
+use Rattle.sheet.specs.Sheet.{Condition, compares, joins, Part, end, plain, when, either, retarget, retargetPart}
+use Rattle.sheet.specs.Fields.{expressionFields, simpleFields}
+use Rattle.sheet.specs.Memory.{conditionFields, partFields}
 use Rattle.source.specs.Grammar.{Instruction, simple, ifThen, ifElse, ifStart}
 use Rattle.source.specs.Fields.{instructionFields}
 use Rattle.source.specs.Limits.{greatestLabel}
@@ -58,9 +59,11 @@ simple-known (send e) = expression-known e
 simple-known (goto l) = refl
 
 condition-known : (c : Condition) → fieldsKnown (conditionFields c) ≡ knownCondition c
-unfolding fieldsKnown pick
+unfolding fieldsKnown conditionFields knownCondition pick
 condition-known (compares r a b) =
     known-append (expressionFields a) (expressionFields b) ∙ ap₂ (λ t u. pick t u false) (expression-known a) (expression-known b)
+condition-known (joins w a b) =
+    known-append (conditionFields a) (conditionFields b) ∙ ap₂ (λ t u. pick t u false) (condition-known a) (condition-known b)
 
 -- a mark in front of fields
 mark-known : (f : Field) (fs : List Field) → fieldKnown f ≡ true → fieldsKnown (f ∷ fs) ≡ fieldsKnown fs
@@ -129,13 +132,14 @@ simple-jumps (set w e) = expression-jumps e
 simple-jumps (send e) = expression-jumps e
 simple-jumps (goto l) = refl
 
+asked-jumps : (c : Condition) → fieldJumps (conditionFields c) ≡ []
+unfolding fieldJumps conditionFields
+asked-jumps (compares r a b) =
+    jumps-append (expressionFields a) (expressionFields b) ∙ ap₂ _++_ (expression-jumps a) (expression-jumps b)
+asked-jumps (joins w a b) = jumps-append (conditionFields a) (conditionFields b) ∙ ap₂ _++_ (asked-jumps a) (asked-jumps b)
+
 condition-jumps : (c : Condition) (fs : List Field) → fieldJumps (conditionFields c ++ fs) ≡ fieldJumps fs
-unfolding fieldJumps
-condition-jumps (compares r a b) fs =
-    jumps-append (expressionFields a ++ expressionFields b) fs
-    ∙ ap
-    (λ l. l ++ fieldJumps fs)
-    (jumps-append (expressionFields a) (expressionFields b) ∙ ap₂ _++_ (expression-jumps a) (expression-jumps b))
+condition-jumps c fs = jumps-append (conditionFields c) fs ∙ ap (λ l. l ++ fieldJumps fs) (asked-jumps c)
 
 part-jumps : (u : Simple) (fs : List Field) → fieldJumps (simpleFields u ++ fs) ≡ simpleJumps u ++ fieldJumps fs
 part-jumps u fs = jumps-append (simpleFields u) fs ∙ ap (λ l. l ++ fieldJumps fs) (simple-jumps u)
@@ -191,6 +195,7 @@ by-field P to none (Word w) = none (Word w) refl
 by-field P to none (Constant n) = none (Constant n) refl
 by-field P to none (Set w) = none (Set w) refl
 by-field P to none (Goto l) = to l
+by-field P to none (Run w n) = none (Run w n) refl
 
 -- one field behind another
 pub jumps-twice : (to from : ℕ → ℕ) (f : Field) → jumping to (jumping from f) ≡ jumping (λ l. to (from l)) f
@@ -249,9 +254,13 @@ module _ (to : ℕ → ℕ) where
       (map-append (jumping to) (expressionFields l) (expressionFields r) ∙ ap₂ _++_ (expression-stays l) (expression-stays r))
 
   condition-stays : (c : Condition) → map (jumping to) (conditionFields c) ≡ conditionFields c
+  unfolding conditionFields
   condition-stays (compares r a b) =
       ap (λ k. Compare r ∷ k)
       (map-append (jumping to) (expressionFields a) (expressionFields b) ∙ ap₂ _++_ (expression-stays a) (expression-stays b))
+  condition-stays (joins w a b) =
+      ap (λ k. Run w 0 ∷ k)
+      (map-append (jumping to) (conditionFields a) (conditionFields b) ∙ ap₂ _++_ (condition-stays a) (condition-stays b))
 
   simple-retargeted : (u : Simple) → map (jumping to) (simpleFields u) ≡ simpleFields (retarget to u)
   simple-retargeted (set w e) = ap (λ l. Set w ∷ l) (expression-stays e)

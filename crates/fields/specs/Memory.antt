@@ -5,7 +5,7 @@ use mathlib.Core.Bool.{Bool, true, false}
 use mathlib.Core.List.{List, [], _∷_}
 use Rattle.base.specs.Choice.{pick}
 use Rattle.sheet.specs.declared.Field.{Field}
-use Rattle.sheet.specs.declared.Field.the-variants.{Else, Start, Finish, If, Send, Neg, Not, Binary, Compare, Word, Constant, Set, Goto}
+use Rattle.sheet.specs.declared.Field.the-variants.{Else, Start, Finish, If, Send, Neg, Not, Binary, Compare, Word, Constant, Set, Goto, Run}
 use Rattle.source.specs.Limits.{mostBytes, greatestLabel}
 use Rattle.source.specs.Program.{isKnown, Jump as SourceJump, jump}
 use Rattle.fields.specs.declared.Jump.{Jump}
@@ -27,6 +27,7 @@ fieldKnown (Word w) = isKnown w
 fieldKnown (Constant n) = true
 fieldKnown (Set w) = isKnown w
 fieldKnown (Goto l) = true
+fieldKnown (Run w n) = true
 
 unfoldable pub fieldsKnown : List Field → Bool
 fieldsKnown [] = true
@@ -48,6 +49,7 @@ jumpOf (Word w) = None
 jumpOf (Constant n) = None
 jumpOf (Set w) = None
 jumpOf (Goto l) = To l
+jumpOf (Run w n) = None
 
 abbrev pub withJump : Jump → List ℕ → List ℕ
 withJump (To l) ls = l ∷ ls

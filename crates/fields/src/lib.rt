@@ -31,6 +31,7 @@ fn is_known(f: Field) -> bool
         Field::Constant(_) => true,
         Field::Set(w) => 2 <= w,
         Field::Goto(_) => true,
+        Field::Run(_, _) => true,
     }
 }
 
@@ -66,6 +67,7 @@ pub fn jump_of(f: Field) -> Jump
         Field::Constant(_) => Jump::Missing,
         Field::Set(_) => Jump::Missing,
         Field::Goto(l) => Jump::To(l),
+        Field::Run(_, _) => Jump::Missing,
     }
 }
 

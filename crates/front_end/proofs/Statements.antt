@@ -9,7 +9,7 @@ use Rattle.base.specs.Choice.{pick}
 use Rattle.base.specs.Places.{each}
 use Rattle.base.proofs.Cases.{by-test}
 use Rattle.sheet.specs.Sheet.{count, Sheet, variables, instructions}
-use Rattle.sheet.specs.Fields.{partFields}
+use Rattle.sheet.specs.Memory.{partFields}
 use Rattle.sheet.specs.Translation.{size}
 use Rattle.sheet_field.specs.Memory.{fieldsFrom}
 use Rattle.source.specs.declared.Mode.the-variants.{Plain}

@@ -6,7 +6,7 @@ use lib.ListN.{length}
 use Rattle.base.specs.Choice.{pick}
 use Rattle.sheet.specs.declared.Field.{Field}
 use Rattle.sheet.specs.Sheet.{count, variables, instructions}
-use Rattle.sheet.specs.Fields.{sheetFields}
+use Rattle.sheet.specs.Memory.{sheetFields}
 use Rattle.sheet_field.specs.Memory.{fieldsFrom, mostFields}
 use Rattle.source.specs.Source.{Answer, accepted, refusal, answer}
 use Rattle.front_end.specs.declared.Answer.{Answer as Reply}

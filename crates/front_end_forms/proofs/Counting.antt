@@ -6,7 +6,7 @@ use native.Mathlib.Omega.{arith}
 use lib.ListN.{length, length-append}
 use Rattle.sheet.specs.declared.Field.the-variants.{Else, Start, Finish}
 use Rattle.sheet.specs.Sheet.{Condition, Part, end, when, either, count}
-use Rattle.sheet.specs.Fields.{partFields, conditionFields}
+use Rattle.sheet.specs.Memory.{partFields, conditionFields}
 use Rattle.sheet.specs.Orders.{simpleSize}
 use Rattle.sheet.specs.Condition.{asking}
 use Rattle.sheet.specs.Translation.{size}
@@ -17,7 +17,7 @@ use Rattle.translate_size.specs.Answers.{Sizes, SizeOf}
 use Rattle.sheet.proofs.Lengths.{condition-few, part-few}
 use Rattle.source.specs.Grammar.{Instruction, simple, ifThen, ifElse, ifStart}
 use Rattle.source.specs.Fields.{instructionFields}
-use Rattle.source.specs.Program.{Group, first, second, append, alone, countOutside, ordersOutside, temporariesIn, placed, groupsOf, listOf}
+use Rattle.source.specs.Program.{Group, first, second, append, alone, countOutside, ordersOutside, temporariesIn, comparisonsIn, placed, groupsOf, listOf}
 use Rattle.source.proofs.Parts.{count-append, size-append, simple-placed, then-placed, else-placed, group-closed, groups-closed}
 use Rattle.front_end_forms.specs.Memory.{outsideFields, programFields}
 
@@ -37,7 +37,7 @@ instructionOrders v (ifStart c) = asking v c
 
 -- what its size says
 pub sized : (own : List ℕ) (i : Instruction) (z : Size) → fieldsAt 0 own ≡ instructionFields i → SizeOf own z → (v : ℕ)
-    → Sizes (instructionOrders v i) (temporariesIn i) (instructionCount i) z
+    → Sizes (instructionOrders v i) (temporariesIn i) (instructionCount i) (comparisonsIn i) z
 sized own (simple u) z e s v = s .of-simple v u e
 sized own (ifThen c u) z e s v = s .of-then v c u e
 sized own (ifElse c u w) z e s v = s .of-else v c u w e

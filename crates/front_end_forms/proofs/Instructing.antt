@@ -7,8 +7,8 @@ use Rattle.base.specs.Choice.{pick}
 use Rattle.sheet.specs.Sheet.{Sheet}
 use Rattle.sheet_field.specs.Memory.{fieldsAt}
 use Rattle.source.specs.Grammar.{Instruction}
-use Rattle.source.specs.Program.{Program, Outcome, known, jumpsIn, all, isLabel, labelling, setting, instructing, placing, withFewTemporaries, withFewLevels}
-use Rattle.source.specs.Program.{withFewOrders}
+use Rattle.source.specs.Program.{Program, Outcome, known, jumpsIn, all, isLabel, labelling, setting, instructing, placing, withFewTemporaries}
+use Rattle.source.specs.Program.{withFewComparisons, withFewLevels, withFewOrders}
 use Rattle.fields.specs.Memory.{fieldsKnown, fieldJumps}
 use Rattle.fields.proofs.Instructions.{known-fields, jumps-fields}
 use Rattle.front_end_forms.specs.declared.Progress.{Progress}
@@ -46,7 +46,8 @@ module _ {own : List ℕ} {opens : Bool} {i : Instruction} (is : IsInstruction o
 
 -- the limits, and the place behind the others
 abbrev restOf : Program → ℕ → List ℕ → Instruction → Outcome
-restOf q k new i = withFewTemporaries k i (withFewLevels k (q .groups) i (withFewOrders k (placing k i (setting q new))))
+restOf q k new i =
+    withFewTemporaries k i (withFewComparisons k i (withFewLevels k (q .groups) i (withFewOrders k (placing k i (setting q new)))))
 
 module _ (q : Program) (k : ℕ) (new : List ℕ) (i : Instruction) {Q : Program → Progress → Type 0} {G : Sheet → Type 0} where
   pub not-known : known i ≡ false → Comes Q G (Refused 8 k) (instructing q k new i)

@@ -13,6 +13,7 @@ use Rattle.base.proofs.Cases.{by-test, by-less}
 use Rattle.order.specs.Limits.{mostTemporaries, mostOrders}
 use Rattle.sheet.specs.declared.Field.{Field}
 use Rattle.sheet.specs.Sheet.{Part, count, Sheet}
+use Rattle.sheet.specs.Condition.{mostComparisons}
 use Rattle.sheet.specs.Translation.{size}
 use Rattle.sheet.specs.Within.{mostLevels}
 use Rattle.sheet_field.specs.Memory.{fieldsAt, fieldsFrom}
@@ -22,7 +23,8 @@ use Rattle.translate_size.specs.Answers.{SizeOf}
 use Rattle.source.specs.Grammar.{Instruction, simple, ifThen, ifElse, ifStart}
 use Rattle.source.specs.Fields.{instructionFields}
 use Rattle.source.specs.Program.{Program, Outcome, refused, Group, first, countOutside, ordersOutside, ordersSoFar, ordersWithStop, nextNumber, jump, moved, arrived}
-use Rattle.source.specs.Program.{jumpsIn, all, isLabel, level, temporariesIn, placed, groupsOf, listOf, placing, withFewTemporaries, withFewLevels, withFewOrders}
+use Rattle.source.specs.Program.{jumpsIn, all, isLabel, level, temporariesIn, comparisonsIn, placed, groupsOf, listOf, placing}
+use Rattle.source.specs.Program.{withFewTemporaries, withFewComparisons, withFewLevels, withFewOrders}
 use Rattle.labels.specs.Memory.{instructionNumbers}
 use Rattle.labels.proofs.Finding.{labels-arrived, so-far-later}
 use Rattle.groups.specs.Memory.{groupWord}
@@ -129,6 +131,10 @@ module _ {q : Program} {p : Progress} {ns : NameTable} {ls gs fs : List ℕ} (h 
   abbrev rest : Outcome
   rest = withFewLevels k (q .groups) i (withFewOrders k (placing k i q))
 
+  -- with the limits of temporaries and comparisons
+  abbrev limited : Outcome
+  limited = withFewTemporaries k i (withFewComparisons k i rest)
+
   total : ordersSoFar (placing k i q) ≡ p .orders + instructionOrders v i
   total = place-orders k (q .groups) (q .here) v i ∙ ap (λ n. n + instructionOrders v i) (sym (h .its-fields .ordered v))
 
@@ -138,6 +144,13 @@ module _ {q : Program} {p : Progress} {ns : NameTable} {ls gs fs : List ℕ} (h 
       let s = sized own i z (is .its-fields) size-too v in
       let t : temporariesIn i ≤ mostTemporaries = omega (arith, few, s .its-temporaries) in
       rw (le-ltb mostTemporaries (temporariesIn i) t) refl
+
+  few-both : z .temporaries ≤ mostTemporaries → z .comparisons ≤ mostComparisons → limited ≡ rest
+  unfolding pick
+  few-both few compared =
+      let s = sized own i z (is .its-fields) size-too v in
+      let t : comparisonsIn i ≤ mostComparisons = omega (arith, compared, s .its-comparisons) in
+      few-temporaries few (withFewComparisons k i rest) ∙ rw (le-ltb mostComparisons (comparisonsIn i) t) refl
 
   over : withFewOrders k (placing k i q) ≡ refused 11 k → rest ≡ refused 11 k
   unfolding pick
@@ -149,26 +162,37 @@ module _ {q : Program} {p : Progress} {ns : NameTable} {ls gs fs : List ℕ} (h 
       rw (is .its-opening, s .its-instructions, h .its-groups .opened) (deep-told i (q .groups))
 
   module _ {P : Program → Progress → Type 0} {G : Sheet → Type 0} where
-    pub over-temporaries : mostTemporaries < z .temporaries → Comes P G (Refused 11 k) (withFewTemporaries k i rest)
+    pub over-temporaries : mostTemporaries < z .temporaries → Comes P G (Refused 11 k) limited
     unfolding pick
     over-temporaries g =
         let s = sized own i z (is .its-fields) size-too v in
         let t : mostTemporaries < temporariesIn i = omega (arith, g, s .its-temporaries) in
         comes-refused 11 k (rw (lt-ltb mostTemporaries (temporariesIn i) t) refl)
 
-    pub over-orders : z .temporaries ≤ mostTemporaries → mostOrders - p .orders ≤ z .orders → Comes P G (Refused 11 k) (withFewTemporaries k i rest)
+    pub over-comparisons : z .temporaries ≤ mostTemporaries → mostComparisons < z .comparisons → Comes P G (Refused 11 k) limited
     unfolding pick
-    over-orders few g =
+    over-comparisons few g =
+        let s = sized own i z (is .its-fields) size-too v in
+        let t : mostComparisons < comparisonsIn i = omega (arith, g, s .its-comparisons) in
+        comes-refused 11 k
+        (few-temporaries few (withFewComparisons k i rest) ∙ rw (lt-ltb mostComparisons (comparisonsIn i) t) refl)
+
+    pub over-orders : z .temporaries ≤ mostTemporaries → z .comparisons ≤ mostComparisons → mostOrders - p .orders ≤ z .orders
+        → Comes P G (Refused 11 k) limited
+    unfolding pick
+    over-orders few compared g =
         let s = sized own i z (is .its-fields) size-too v in
         let u : mostOrders < ordersWithStop (placing k i q) = omega (arith, g, s .its-orders, total, h .its-fields .few-orders) in
-        comes-refused 11 k (few-temporaries few rest ∙ over (rw (lt-ltb mostOrders (ordersWithStop (placing k i q)) u) refl))
+        comes-refused 11 k (few-both few compared ∙ over (rw (lt-ltb mostOrders (ordersWithStop (placing k i q)) u) refl))
 
-    pub over-levels : z .temporaries ≤ mostTemporaries → (t : Bool) → t ≡ tooDeep opens (z .instructions) (p .groups) → t ≡ true → Comes P G (Refused 11 k) (withFewTemporaries k i rest)
+    pub over-levels : z .temporaries ≤ mostTemporaries → z .comparisons ≤ mostComparisons → (t : Bool)
+        → t ≡ tooDeep opens (z .instructions) (p .groups) → t ≡ true → Comes P G (Refused 11 k) limited
     unfolding pick
-    over-levels few t known e = comes-refused 11 k (few-temporaries few rest ∙ rw (sym deep ∙ sym known ∙ e) refl)
+    over-levels few compared t known e = comes-refused 11 k (few-both few compared ∙ rw (sym deep ∙ sym known ∙ e) refl)
 
   -- the limits are kept
-  module _ (good : all isLabel (jumpsIn i) ≡ true) (few-statements : k < statementNumbers) (few : z .temporaries ≤ mostTemporaries) (g : z .orders < mostOrders - p .orders)
+  module _ (good : all isLabel (jumpsIn i) ≡ true) (few-statements : k < statementNumbers) (few : z .temporaries ≤ mostTemporaries)
+      (compared : z .comparisons ≤ mostComparisons) (g : z .orders < mostOrders - p .orders)
       (t : Bool) (known : t ≡ tooDeep opens (z .instructions) (p .groups)) (fits : t ≡ false)
       (r : Put) (after : List ℕ) (told : putIn r after ≡ putOf k (fieldsAt 0 own) (p .fields) fs) (kept : length after ≡ length fs) where
     few-orders : instructionOrders v i < mostOrders - p .orders
@@ -262,10 +286,10 @@ module _ {q : Program} {p : Progress} {ns : NameTable} {ls gs fs : List ℕ} (h 
             orders = p .orders + z .orders;
             groups = count-too;
           }))
-          (withFewTemporaries k i rest)
+          limited
       unfolding pick
       comes-placed =
           let u : ordersWithStop (placing k i q) ≤ mostOrders = omega (arith, total, few-orders, h .its-fields .few-orders) in
           comes-further (placing k i q) _
-          (few-temporaries few rest ∙ rw (sym deep ∙ sym known ∙ fits, le-ltb mostOrders (ordersWithStop (placing k i q)) u) refl)
+          (few-both few compared ∙ rw (sym deep ∙ sym known ∙ fits, le-ltb mostOrders (ordersWithStop (placing k i q)) u) refl)
           (record { staged = refl; its-names = h .its-names; its-labels = labels-too; its-groups = groups-too; its-fields = fields-too })

@@ -8,7 +8,7 @@ use lib.ListN.{set}
 use Rattle.base.specs.Choice.{pick}
 use Rattle.sheet.specs.Within.{mostLevels}
 use Rattle.source.specs.Grammar.{Instruction}
-use Rattle.source.specs.Program.{Program, jumpsIn, all, isLabel, withFewTemporaries, withFewLevels, withFewOrders, placing}
+use Rattle.source.specs.Program.{Program, jumpsIn, all, isLabel, withFewTemporaries, withFewComparisons, withFewLevels, withFewOrders, placing}
 use Rattle.groups.specs.Memory.{groupWord}
 use Rattle.fields.specs.Memory.{statementNumbers}
 use Rattle.front_end_forms.specs.declared.Progress.{Progress}
@@ -33,4 +33,4 @@ Places p k own opens before-gs before-fs r gs fs =
     → IsInstruction own opens i
     → all isLabel (jumpsIn i) ≡ true
     → Comes (λ o n. Holds o n ns ls gs fs) NoSheet r
-    (withFewTemporaries k i (withFewLevels k (q .groups) i (withFewOrders k (placing k i q))))
+    (withFewTemporaries k i (withFewComparisons k i (withFewLevels k (q .groups) i (withFewOrders k (placing k i q)))))

@@ -7,7 +7,7 @@ use Rattle.order.specs.Limits.{mostVariables, mostOrders}
 use Rattle.sheet.specs.declared.Field.{Field}
 use Rattle.sheet.specs.declared.Field.the-variants.{Else}
 use Rattle.sheet.specs.Sheet.{Part, count, Sheet, variables, instructions as instructionsOf}
-use Rattle.sheet.specs.Fields.{partFields, sheetFields}
+use Rattle.sheet.specs.Memory.{partFields, sheetFields}
 use Rattle.sheet.specs.Translation.{size}
 use Rattle.sheet.specs.Within.{mostLevels}
 use Rattle.sheet_field.specs.Memory.{fieldsFrom, mostFields}

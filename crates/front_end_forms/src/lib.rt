@@ -1,5 +1,5 @@
-// What declarations, labels and instructions do to the program so far, document 01 and 02, L1: names, labels, limits, and their place
-// in the sheet.
+// What declarations, labels and instructions do to the program so far, document 01 and 02, L1 and L5: names, labels, limits, and their
+// place in the sheet.
 use fields::all_known;
 use fields::good_jumps;
 use fields_put::Put;
@@ -12,6 +12,7 @@ use names::declare;
 use order::MOST_ORDERS;
 use order::MOST_TEMPORARIES;
 use order::MOST_VARIABLES;
+use sheet_field::MOST_COMPARISONS;
 use sheet_field::MOST_LEVELS;
 use source::MOST_LABELS;
 use translate_size::size_of;
@@ -193,6 +194,9 @@ fn place(
 {
     let size = size_of(own);
     if MOST_TEMPORARIES < size.temporaries {
+        return Step::Refused(11, k);
+    }
+    if MOST_COMPARISONS < size.comparisons {
         return Step::Refused(11, k);
     }
     if MOST_ORDERS - p.orders <= size.orders {

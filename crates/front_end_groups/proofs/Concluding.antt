@@ -6,7 +6,7 @@ use native.Mathlib.Omega.{arith}
 use lib.ListN.{length, getD}
 use Rattle.sheet.specs.declared.Field.{Field}
 use Rattle.sheet.specs.Sheet.{Sheet, count}
-use Rattle.sheet.specs.Fields.{partFields}
+use Rattle.sheet.specs.Memory.{partFields}
 use Rattle.sheet_field.specs.Memory.{fieldsFrom}
 use Rattle.source.specs.Program.{Program, Outcome, refused, Group, countOutside, nextNumber, closed, Unset, unset, allSet, firstUnset, numberOf, sheetOf, finished, concluding}
 use Rattle.source.proofs.Parts.{count-same}

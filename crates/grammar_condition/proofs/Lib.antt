@@ -1,1 +1,1 @@
-pub mod Comparisons
+pub mod Whole

@@ -1,46 +1,22 @@
-// What an IF asks, document 01 ("Statements"). Each function reads from the token at place `at` on and writes from place `out`
-// on. Comments in quotes are document 01's words.
-use grammar_expression::expression;
-use grammar_look::Related;
-use grammar_look::relation_at;
+// What an IF asks, document 01 ("Statements") and 02, L5: comparisons, joined by words and in brackets, from left to right into
+// prefix order.
+use grammar_member::Found;
+use grammar_member::begun;
+use grammar_member::closed;
+use grammar_member::joined;
+use grammar_member::member;
+use grammar_member::word_behind;
 use grammar_output::Step;
-use grammar_output::insert;
-use sheet::Field;
+use source::MOST_CELLS;
 ghost use mathlib.Core.Path.{_≡_};
-ghost use Prim.Native.Nat.{_+_};
 ghost use Rattle.sheet_field.specs.Memory.{fieldsFrom};
 ghost use Rattle.grammar_look.specs.Internal.{left};
 ghost use Rattle.grammar_output.specs.Internal.{Ready, Moved};
 ghost use Rattle.grammar_expression.specs.Internal.{stepped};
-ghost use Rattle.grammar_condition.specs.Internal.{comparedPass, conditionPass};
+ghost use Rattle.grammar_condition.specs.Internal.{conditionPass};
 
-// The first expression of a comparison and the relation behind it, whose field goes before the expression.
-fn compared(
-    kinds: &[u8],
-    values: &[u32],
-    n: usize,
-    at: usize,
-    fields: &mut [u64],
-    out: usize,
-) -> Step
-    requires { ⌜ Ready n at out (now fields) ⌝ }
-    ensures moved { λ r. ⌜ Moved 1 n at out r ⌝ }
-    ensures read { λ r. ⌜ stepped n (now (kinds .entry)) (now (values .entry)) r (now (fields .exit))
-        ≡ comparedPass (fieldsFrom 0 out (now (fields .entry)))
-        (left n at (now (kinds .entry)) (now (values .entry))) ⌝ }
-{
-    let first = expression(kinds, values, n, at, fields, out);
-    let Step::At(a, b) = first else {
-        return Step::Missing;
-    };
-    let Related::By(s) = relation_at(kinds, values, n, a) else {
-        return Step::Missing;
-    };
-    insert(fields, out, b, Field::Compare(s));
-    Step::At(a + 1, b + 1)
-}
-
-// "expr rel expr"
+// A condition from the token at place `at` on, with the brackets that it has open in an array of its own. Its fields are written
+// from place `out` on.
 pub fn condition(
     kinds: &[u8],
     values: &[u32],
@@ -55,9 +31,27 @@ pub fn condition(
         ≡ conditionPass (fieldsFrom 0 out (now (fields .entry)))
         (left n at (now (kinds .entry)) (now (values .entry))) ⌝ }
 {
-    let first = compared(kinds, values, n, at, fields, out);
-    let Step::At(a, b) = first else {
+    let mut stack = [0u32; MOST_CELLS];
+    let first = member(kinds, values, n, fields, &mut stack, begun(at, out, 0));
+    let Found::At(t) = first else {
         return Step::Missing;
     };
-    expression(kinds, values, n, a, fields, b)
+    let mut s = t;
+    loop {
+        let w = word_behind(kinds, values, n, s.at, s.joined);
+        if w == 0 {
+            if s.depth == 0 {
+                return Step::At(s.at, s.out);
+            }
+            let Found::At(t) = closed(kinds, values, n, &stack, s) else {
+                return Step::Missing;
+            };
+            s = t;
+        } else {
+            let Found::At(t) = joined(kinds, values, n, fields, &mut stack, s, w) else {
+                return Step::Missing;
+            };
+            s = t;
+        }
+    }
 }

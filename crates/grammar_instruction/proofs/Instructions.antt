@@ -7,7 +7,8 @@ use Rattle.base.specs.Choice.{pick}
 use Rattle.sheet.specs.declared.Field.{Field}
 use Rattle.sheet.specs.declared.Field.the-variants.{Else, Start, Finish, If}
 use Rattle.sheet.specs.Sheet.{Simple, Condition}
-use Rattle.sheet.specs.Fields.{simpleFields, conditionFields}
+use Rattle.sheet.specs.Fields.{simpleFields}
+use Rattle.sheet.specs.Memory.{conditionFields}
 use Rattle.source.specs.declared.Token.{Token}
 use Rattle.source.specs.Tokens.{markIf, markThen, markElse, markStart}
 use Rattle.source.specs.Grammar.{Read, read, none, next, past, opens, behindFirst, simpleAt, conditionAt}

@@ -17,7 +17,7 @@ use Rattle.word.proofs.Closed.{comparison-closed, quotient-closed, power-closed
 use Rattle.order.specs.declared.Operation.{Operation}
 use Rattle.order.specs.declared.Operation.the-variants.{Load, Add, Sub, Mlt, Div, Exp, Shl, Shr, And, Or, Xor, Cmp}
 use Rattle.order.specs.declared.Order.{Order}
-use Rattle.order.specs.declared.Order.the-variants.{Word, Number, Store, Neg, Not, Jump, Skip, Branch, Send, Stop}
+use Rattle.order.specs.declared.Order.the-variants.{Word, Number, Store, Neg, Not, Jump, Skip, Branch, Cond, Send, Stop}
 use Rattle.order.specs.Order.{operand}
 use Rattle.order.specs.Object.{isStop}
 use Rattle.machine.specs.declared.Registers.{Registers}
@@ -72,7 +72,8 @@ operation-gives Cmp a x = gives (comparison a x) (λ _ _. comparison-closed a x)
 -- ---- the cases
 
 pub data Case (r : Registers) (ws out : List ℕ) : Order → Effect → Type 0 where
-  -- the accumulator becomes a word, if it and the words are words: operations, NEG and NOT; also a branch that is not taken
+  -- the accumulator becomes a word, if it and the words are words: operations, NEG and NOT; also COND and a branch that is not
+  -- taken, which leave it as it is
   computes :
       (o : Order) (a : ℕ)
       → isStop o ≡ false
@@ -122,6 +123,7 @@ module _ (r : Registers) (ws out : List ℕ) where
   case (Jump a) = jumps a
   case (Skip a) = skips a
   case (Branch s a) = branched (relatedToZero s (r .acc)) s a
+  case (Cond n) = computes (Cond n) (r .acc) refl (λ h _ _. h)
   case Send = sent-or-full (ltb (r .sent) (length out / 4)) (λ e. ltb-true (r .sent) (length out / 4) e)
   case Stop = stops
 

@@ -9,7 +9,7 @@ use lib.ListN.{length, getD}
 use Rattle.base.specs.Choice.{pick}
 use Rattle.word.specs.Word.{Outcome, value, fault}
 use Rattle.order.specs.declared.Order.{Order}
-use Rattle.order.specs.declared.Order.the-variants.{Word, Number, Store, Neg, Not, Jump, Skip, Branch, Send, Stop}
+use Rattle.order.specs.declared.Order.the-variants.{Word, Number, Store, Neg, Not, Jump, Skip, Branch, Cond, Send, Stop}
 use Rattle.order.specs.Good.{Good}
 use Rattle.machine.specs.declared.Registers.{Registers}
 use Rattle.machine.specs.Machine.{Machine, machine, done, failed, ran, operate, toAcc, send, effect, run}
@@ -47,6 +47,7 @@ module _ (r : Registers) (ws out : List ℕ) (s : Registers) (vs left : List ℕ
   one-word (Jump a) e = cc
   one-word (Skip a) e = cc
   one-word (Branch q a) e = cc
+  one-word (Cond n) e = cc
   one-word Send e = sending-keeps (ltb (r .sent) (length out / 4)) _ _ e
   one-word Stop e = cc
 

@@ -5,7 +5,7 @@ use mathlib.Core.List.{List}
 use mathlib.Core.Logic.{_⊎_}
 use lib.ListN.{getD, set}
 use Rattle.order.specs.declared.Order.{Order}
-use Rattle.order.specs.declared.Order.the-variants.{Word, Number, Store, Neg, Not, Jump, Skip, Branch, Send, Stop}
+use Rattle.order.specs.declared.Order.the-variants.{Word, Number, Store, Neg, Not, Jump, Skip, Branch, Cond, Send, Stop}
 use Rattle.order.specs.Order.{operand}
 
 -- 0 none, 1 to 4 that fault, 20 stopped
@@ -34,5 +34,6 @@ written Not a ws = ws
 written (Jump i) a ws = ws
 written (Skip i) a ws = ws
 written (Branch s i) a ws = ws
+written (Cond n) a ws = ws
 written Send a ws = ws
 written Stop a ws = ws

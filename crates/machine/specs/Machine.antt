@@ -11,7 +11,7 @@ use Rattle.word.specs.Word.{andBits, orBits, xorBits, notBits, comparison, rela
 use Rattle.order.specs.declared.Operation.{Operation}
 use Rattle.order.specs.declared.Operation.the-variants.{Load, Add, Sub, Mlt, Div, Exp, Shl, Shr, And, Or, Xor, Cmp}
 use Rattle.order.specs.declared.Order.{Order}
-use Rattle.order.specs.declared.Order.the-variants.{Word, Number, Store, Neg, Not, Jump, Skip, Branch, Send, Stop}
+use Rattle.order.specs.declared.Order.the-variants.{Word, Number, Store, Neg, Not, Jump, Skip, Branch, Cond, Send, Stop}
 use Rattle.machine.specs.declared.Registers.{Registers}
 
 -- "A state is the words, the accumulator, the next order, the count sent and the ending, if any": the registers and the
@@ -77,7 +77,8 @@ send (machine r ws out) =
     (done (machine (sentOne r) ws (sets out (4 * r .sent) (wordBytes (r .acc)))))
     (failed 4)
 
--- "STOP leaves the next order at itself." SKIP is "a new order .. with the effect of JMP" (02, L1).
+-- "STOP leaves the next order at itself." SKIP is "a new order .. with the effect of JMP" (02, L1). COND "does nothing" (02, L5): it
+-- is a step to the order behind.
 abbrev pub effect : Order → Machine → Effect
 effect (Word f w) (machine r ws out) = toAcc (operate f (r .acc) (getD ws w 0)) (machine r ws out)
 effect (Number f n) (machine r ws out) = toAcc (operate f (r .acc) n) (machine r ws out)
@@ -88,6 +89,7 @@ effect (Jump a) (machine r ws out) = done (machine (goTo a r) ws out)
 effect (Skip a) (machine r ws out) = done (machine (goTo a r) ws out)
 effect (Branch s a) (machine r ws out) =
     done (machine (pick (relatedToZero s (r .acc)) (goTo a r) (advance (r .acc) r)) ws out)
+effect (Cond n) (machine r ws out) = done (machine (advance (r .acc) r) ws out)
 effect Send m = send m
 effect Stop (machine r ws out) = done (machine (endWith 20 r) ws out)
 

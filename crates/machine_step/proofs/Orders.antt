@@ -13,7 +13,7 @@ use Rattle.word.specs.Word.{Outcome, value, fault}
 use Rattle.order.specs.declared.Operation.{Operation}
 use Rattle.order.specs.declared.Operation.the-variants.{Load, Add, Sub, Mlt, Div, Exp, Shl, Shr, And, Or, Xor, Cmp}
 use Rattle.order.specs.declared.Order.{Order}
-use Rattle.order.specs.declared.Order.the-variants.{Word, Number, Store, Neg, Not, Jump, Skip, Branch, Send, Stop}
+use Rattle.order.specs.declared.Order.the-variants.{Word, Number, Store, Neg, Not, Jump, Skip, Branch, Cond, Send, Stop}
 use Rattle.order.specs.Memory.{shapes, orderOf, orderIn, ordersIn}
 use Rattle.order.proofs.Arrays.{order-at}
 use Rattle.machine.specs.declared.Registers.{Registers}
@@ -47,6 +47,7 @@ mayFault Not = false
 mayFault (Jump a) = false
 mayFault (Skip a) = false
 mayFault (Branch r a) = false
+mayFault (Cond n) = false
 mayFault Send = true
 mayFault Stop = false
 
@@ -108,6 +109,7 @@ cannot-fault Not (machine r ws out) e = refl
 cannot-fault (Jump a) (machine r ws out) e = refl
 cannot-fault (Skip a) (machine r ws out) e = refl
 cannot-fault (Branch s a) (machine r ws out) e = refl
+cannot-fault (Cond n) (machine r ws out) e = refl
 cannot-fault Send m e = no-mark e
 cannot-fault Stop (machine r ws out) e = refl
 
@@ -159,6 +161,7 @@ carried-effect Not r ws out = refl
 carried-effect (Jump a) r ws out = refl
 carried-effect (Skip a) r ws out = refl
 carried-effect (Branch s a) r ws out = refl
+carried-effect (Cond n) r ws out = refl
 carried-effect Send r ws out = sent-effect (ltb (r .sent) (length out / 4)) _ r ws out
 carried-effect Stop r ws out = refl
 

@@ -4,7 +4,7 @@ use lib.ListN.{getD, set}
 use Rattle.base.specs.Choice.{pick}
 use Rattle.word.specs.Word.{Outcome, value, fault, negation, notBits, relatedToZero}
 use Rattle.order.specs.declared.Order.{Order}
-use Rattle.order.specs.declared.Order.the-variants.{Word, Number, Store, Neg, Not, Jump, Skip, Branch, Send, Stop}
+use Rattle.order.specs.declared.Order.the-variants.{Word, Number, Store, Neg, Not, Jump, Skip, Branch, Cond, Send, Stop}
 use Rattle.machine.specs.Machine.{Machine, machine, endWith, goTo, operate}
 use Rattle.machine_effect.specs.Internal.{moved, settled, sentTo}
 
@@ -23,5 +23,6 @@ carried (Jump a) behind (machine r ws out) = machine (goTo a r) ws out
 carried (Skip a) behind (machine r ws out) = machine (goTo a r) ws out
 carried (Branch s a) behind (machine r ws out) =
     machine (pick (relatedToZero s (r .acc)) (goTo a r) (moved (r .acc) behind r)) ws out
+carried (Cond n) behind (machine r ws out) = machine (moved (r .acc) behind r) ws out
 carried Send behind m = sentTo behind m
 carried Stop behind (machine r ws out) = machine (endWith 20 r) ws out

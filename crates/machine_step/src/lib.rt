@@ -93,6 +93,7 @@ fn carry_out(
         34 => on_number(Operation::Xor, v, behind, r),
         35 => on_number(Operation::Cmp, v, behind, r),
         36 => go_to(v, r),
+        37 => advance(r.acc, behind, r),
         _ => end_with(STOPPED, r),
     }
 }

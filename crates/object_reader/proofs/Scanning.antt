@@ -15,7 +15,7 @@ use Rattle.base.specs.Front.{found, missing, onFront}
 use Rattle.base.proofs.Cases.{by-test}
 use Rattle.base.proofs.Lists.{sets-more}
 use Rattle.order.specs.declared.Order.{Order}
-use Rattle.order.specs.declared.Order.the-variants.{Word, Number, Store, Neg, Not, Jump, Skip, Branch, Send, Stop}
+use Rattle.order.specs.declared.Order.the-variants.{Word, Number, Store, Neg, Not, Jump, Skip, Branch, Cond, Send, Stop}
 use Rattle.order.specs.Limits.{mostVariables, mostTemporaries, mostOrders}
 use Rattle.order.specs.Memory.{orderWord}
 use Rattle.order.specs.Object.{withinLimits, recordAt, Lines, linesAt, Reading, refused}
@@ -93,6 +93,7 @@ module _ (words n : ℕ) where
   operand-troubled (Jump a) k after = address-troubled a n k after
   operand-troubled (Skip a) k after = address-troubled a n k after
   operand-troubled (Branch r a) k after = address-troubled a n k after
+  operand-troubled (Cond v) k after = refl
   operand-troubled Send k after = refl
   operand-troubled Stop k after = refl
 

@@ -8,7 +8,7 @@ use Rattle.base.specs.Choice.{pick}
 use Rattle.base.specs.Front.{found, missing}
 use Rattle.text.specs.Pieces.{Front}
 use Rattle.order.specs.declared.Order.{Order}
-use Rattle.order.specs.declared.Order.the-variants.{Word, Number as OnNumber, Store, Neg, Not, Jump, Skip, Branch, Send, Stop}
+use Rattle.order.specs.declared.Order.the-variants.{Word, Number as OnNumber, Store, Neg, Not, Jump, Skip, Branch, Cond, Send, Stop}
 use Rattle.order.specs.Limits.{mostVariables, mostTemporaries, mostOrders}
 use Rattle.order.specs.Object.{Header, Lines, Reading, refused, firstOperand, firstStop, isStop}
 use Rattle.object_reader.specs.declared.Head.{Head}
@@ -45,6 +45,7 @@ troubleOf words n place Not = Free
 troubleOf words n place (Jump a) = addressTrouble a n place
 troubleOf words n place (Skip a) = addressTrouble a n place
 troubleOf words n place (Branch r a) = addressTrouble a n place
+troubleOf words n place (Cond k) = Free
 troubleOf words n place Send = Free
 troubleOf words n place Stop = Free
 

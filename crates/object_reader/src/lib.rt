@@ -128,6 +128,7 @@ fn trouble_of(o: Order, words: u32, n: u32, place: u32) -> Trouble
         Order::Jump(a) => address_trouble(a, n, place),
         Order::Skip(a) => address_trouble(a, n, place),
         Order::Branch(_, a) => address_trouble(a, n, place),
+        Order::Cond(_) => Trouble::Free,
         Order::Send => Trouble::Free,
         Order::Stop => Trouble::Free,
     }
@@ -156,6 +157,7 @@ fn is_stop(o: Order) -> bool
         Order::Jump(_) => false,
         Order::Skip(_) => false,
         Order::Branch(_, _) => false,
+        Order::Cond(_) => false,
         Order::Send => false,
         Order::Stop => true,
     }

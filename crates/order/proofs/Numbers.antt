@@ -11,7 +11,7 @@ use Rattle.word.specs.declared.Relation.the-variants.{Equal, Unequal, Less, AtM
 use Rattle.order.specs.declared.Operation.{Operation}
 use Rattle.order.specs.declared.Operation.the-variants.{Load, Add, Sub, Mlt, Div, Exp, Shl, Shr, And, Or, Xor, Cmp}
 use Rattle.order.specs.declared.Order.{Order}
-use Rattle.order.specs.declared.Order.the-variants.{Word, Number, Store, Neg, Not, Jump, Skip, Branch, Send, Stop}
+use Rattle.order.specs.declared.Order.the-variants.{Word, Number, Store, Neg, Not, Jump, Skip, Branch, Cond, Send, Stop}
 use Rattle.order.specs.Order.{operand}
 use Rattle.order.specs.Object.{isStop}
 use Rattle.order.specs.Memory.{operationNumber, branchNumber, number, shapes, orderOf, orderWord, orderIn}
@@ -52,19 +52,20 @@ order-again Not = refl
 order-again (Jump a) = refl
 order-again (Skip a) = refl
 order-again (Branch r a) = branch-again r a
+order-again (Cond n) = refl
 order-again Send = refl
 order-again Stop = refl
 
 -- a number past the table stands for STOP, whose number is 0
-pub number-below : (o : Order) → number o < 37
+pub number-below : (o : Order) → number o < 38
 unfolding orderOf shapes
 number-below o =
-    by-less (number o) 37 (λ l. l)
+    by-less (number o) 38 (λ l. l)
     (λ g. let past : number o ≡ 0 = ap number (sym (order-again o) ∙ ap (λ s. s (operand o)) (List·getD-eq-default shapes (λ v. Stop) g)) in
     absurd (omega arith))
 
 -- any other number stands for STOP
-pub no-order : (k v : ℕ) → 37 ≤ k → Stop ≡ orderOf k v
+pub no-order : (k v : ℕ) → 38 ≤ k → Stop ≡ orderOf k v
 unfolding shapes orderOf
 no-order k v h = ap (λ f. f v) (sym (List·getD-eq-default shapes (λ v. Stop) {n = k} h))
 
@@ -83,6 +84,7 @@ stop-number (Branch Less a) = refl
 stop-number (Branch AtMost a) = refl
 stop-number (Branch Greater a) = refl
 stop-number (Branch AtLeast a) = refl
+stop-number (Cond n) = refl
 stop-number Send = refl
 stop-number Stop = refl
 

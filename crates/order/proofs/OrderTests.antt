@@ -11,7 +11,7 @@ use Rattle.base.specs.Choice.{pick}
 use Rattle.base.proofs.Cases.{by-test}
 use Rattle.text.specs.Pieces.{greatestNumber}
 use Rattle.order.specs.declared.Order.{Order}
-use Rattle.order.specs.declared.Order.the-variants.{Word, Number, Store, Neg, Not, Jump, Skip, Branch, Send, Stop}
+use Rattle.order.specs.declared.Order.the-variants.{Word, Number, Store, Neg, Not, Jump, Skip, Branch, Cond, Send, Stop}
 use Rattle.order.specs.Limits.{mostVariables, mostTemporaries, mostOrders}
 use Rattle.order.specs.Order.{operand}
 use Rattle.order.specs.Object.{operandRefusal, isStop}
@@ -55,6 +55,7 @@ module _ (v t n : ℕ) where
   fits-passes (Jump a) h = address-passes n a (omega (arith, h))
   fits-passes (Skip a) h = address-passes n a (omega (arith, h))
   fits-passes (Branch r a) h = address-passes n a (omega (arith, h))
+  fits-passes (Cond k) h = refl
   fits-passes Send h = refl
   fits-passes Stop h = refl
 
@@ -67,6 +68,7 @@ module _ (v t n : ℕ) where
   passed-fits (Jump a) small e = address-fits n a e
   passed-fits (Skip a) small e = address-fits n a e
   passed-fits (Branch r a) small e = address-fits n a e
+  passed-fits (Cond k) small e = small
   passed-fits Send small e = tt
   passed-fits Stop small e = tt
 
@@ -80,6 +82,7 @@ module _ (v t n : ℕ) where
   small-operand a b c (Jump x) h = omega (arith, c, h)
   small-operand a b c (Skip x) h = omega (arith, c, h)
   small-operand a b c (Branch r x) h = omega (arith, c, h)
+  small-operand a b c (Cond k) h = h
   small-operand a b c Send h = omega arith
   small-operand a b c Stop h = omega arith
 
@@ -102,6 +105,7 @@ stop-told Not e = never e
 stop-told (Jump a) e = never e
 stop-told (Skip a) e = never e
 stop-told (Branch r a) e = never e
+stop-told (Cond n) e = never e
 stop-told Send e = never e
 stop-told Stop e = refl
 

@@ -11,7 +11,7 @@ use Rattle.base.specs.Front.{onFront}
 use Rattle.base.proofs.Cases.{either-part}
 use Rattle.base.proofs.Fronts.{by-front}
 use Rattle.order.specs.declared.Order.{Order}
-use Rattle.order.specs.declared.Order.the-variants.{Word, Number, Store, Neg, Not, Jump, Skip, Branch, Send, Stop}
+use Rattle.order.specs.declared.Order.the-variants.{Word, Number, Store, Neg, Not, Jump, Skip, Branch, Cond, Send, Stop}
 use Rattle.order.specs.Limits.{mostOrders}
 use Rattle.order.specs.Object.{Header, Lines, Reading, object, refused, headerAt, linesAt}
 use Rattle.order.specs.Object.{operandRefusal, firstStop, firstOperand, stopLast, exactly, reading}
@@ -46,6 +46,7 @@ operand-known words n Not = omega arith
 operand-known words n (Jump a) = address-known n a
 operand-known words n (Skip a) = address-known n a
 operand-known words n (Branch r a) = address-known n a
+operand-known words n (Cond k) = omega arith
 operand-known words n Send = omega arith
 operand-known words n Stop = omega arith
 

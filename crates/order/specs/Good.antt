@@ -6,7 +6,7 @@ use mathlib.Core.List.{List}
 use lib.ListN.{length, getD}
 use Rattle.text.specs.Pieces.{greatestNumber}
 use Rattle.order.specs.declared.Order.{Order}
-use Rattle.order.specs.declared.Order.the-variants.{Word, Number, Store, Neg, Not, Jump, Skip, Branch, Send, Stop}
+use Rattle.order.specs.declared.Order.the-variants.{Word, Number, Store, Neg, Not, Jump, Skip, Branch, Cond, Send, Stop}
 use Rattle.order.specs.Limits.{mostVariables, mostTemporaries, mostOrders}
 
 -- "word not in 2..V+T+1" is refused
@@ -24,6 +24,7 @@ OperandFits v t n Not = Unit {0}
 OperandFits v t n (Jump a) = a < n
 OperandFits v t n (Skip a) = a < n
 OperandFits v t n (Branch r a) = a < n
+OperandFits v t n (Cond k) = k ≤ greatestNumber
 OperandFits v t n Send = Unit {0}
 OperandFits v t n Stop = Unit {0}
 

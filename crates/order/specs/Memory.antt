@@ -7,7 +7,7 @@ use Rattle.word.specs.declared.Relation.the-variants.{Equal, Unequal, Less, AtM
 use Rattle.order.specs.declared.Operation.{Operation}
 use Rattle.order.specs.declared.Operation.the-variants.{Load, Add, Sub, Mlt, Div, Exp, Shl, Shr, And, Or, Xor, Cmp}
 use Rattle.order.specs.declared.Order.{Order}
-use Rattle.order.specs.declared.Order.the-variants.{Word, Number, Store, Neg, Not, Jump, Skip, Branch, Send, Stop}
+use Rattle.order.specs.declared.Order.the-variants.{Word, Number, Store, Neg, Not, Jump, Skip, Branch, Cond, Send, Stop}
 use Rattle.order.specs.Order.{operand, operations, branches}
 
 abbrev pub operationNumber : Operation → ℕ
@@ -43,6 +43,7 @@ number (Store w) = 11
 number (Word f w) = 12 + operationNumber f
 number (Number f n) = 24 + operationNumber f
 number (Skip a) = 36
+number (Cond n) = 37
 
 -- the orders that have these numbers, with the operand v
 unfoldable pub shapes : List (ℕ → Order)
@@ -57,6 +58,7 @@ shapes =
     ∷ map (λ f v. Word f v) operations
     ++ map (λ f v. Number f v) operations
     ++ Skip
+    ∷ Cond
     ∷ []
 
 unfoldable pub orderOf : ℕ → ℕ → Order

@@ -10,7 +10,7 @@ use Rattle.base.specs.Text.{bytes}
 use Rattle.base.specs.Front.{found, missing, onFront}
 use Rattle.text.specs.Pieces.{decimal, Front, fixed, numeral}
 use Rattle.order.specs.declared.Order.{Order}
-use Rattle.order.specs.declared.Order.the-variants.{Word, Number, Store, Neg, Not, Jump, Skip, Branch, Send, Stop}
+use Rattle.order.specs.declared.Order.the-variants.{Word, Number, Store, Neg, Not, Jump, Skip, Branch, Cond, Send, Stop}
 use Rattle.order.specs.Limits.{mostVariables, mostTemporaries, mostOrders}
 use Rattle.order.specs.Order.{name, kind, operand, table}
 
@@ -108,6 +108,7 @@ operandRefusal words n Not = 0
 operandRefusal words n (Jump a) = pick (ltb a n) 0 24
 operandRefusal words n (Skip a) = pick (ltb a n) 0 24
 operandRefusal words n (Branch r a) = pick (ltb a n) 0 24
+operandRefusal words n (Cond k) = 0
 operandRefusal words n Send = 0
 operandRefusal words n Stop = 0
 
@@ -120,6 +121,7 @@ isStop Not = false
 isStop (Jump a) = false
 isStop (Skip a) = false
 isStop (Branch r a) = false
+isStop (Cond n) = false
 isStop Send = false
 isStop Stop = true
 

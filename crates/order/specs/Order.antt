@@ -8,7 +8,7 @@ use Rattle.word.specs.declared.Relation.the-variants.{Equal, Unequal, Less, AtM
 use Rattle.order.specs.declared.Operation.{Operation}
 use Rattle.order.specs.declared.Operation.the-variants.{Load, Add, Sub, Mlt, Div, Exp, Shl, Shr, And, Or, Xor, Cmp}
 use Rattle.order.specs.declared.Order.{Order}
-use Rattle.order.specs.declared.Order.the-variants.{Word, Number, Store, Neg, Not, Jump, Skip, Branch, Send, Stop}
+use Rattle.order.specs.declared.Order.the-variants.{Word, Number, Store, Neg, Not, Jump, Skip, Branch, Cond, Send, Stop}
 
 -- ---- the table of orders: names and kinds
 
@@ -45,6 +45,7 @@ name Not = "NOT"
 name (Jump a) = "JMP"
 name (Skip a) = "SKIP"
 name (Branch r a) = branchName r
+name (Cond n) = "COND"
 name Send = "SEND"
 name Stop = "STOP"
 
@@ -58,10 +59,11 @@ kind Not = "-"
 kind (Jump a) = "A"
 kind (Skip a) = "A"
 kind (Branch r a) = "A"
+kind (Cond n) = "K"
 kind Send = "-"
 kind Stop = "-"
 
--- the number of the order's record. "Kind `-` has number 0."
+-- the number of the order's record. "Kind `-` has number 0." COND's "is the count of comparisons" (02, L5)
 abbrev pub operand : Order → ℕ
 operand (Word f w) = w
 operand (Number f n) = n
@@ -71,6 +73,7 @@ operand Not = 0
 operand (Jump a) = a
 operand (Skip a) = a
 operand (Branch r a) = a
+operand (Cond n) = n
 operand Send = 0
 operand Stop = 0
 
@@ -84,8 +87,8 @@ operations = Load ∷ Add ∷ Sub ∷ Mlt ∷ Div ∷ Exp ∷ Shl ∷ Shr ∷ An
 abbrev pub branches : List Relation
 branches = Equal ∷ Unequal ∷ Less ∷ AtMost ∷ Greater ∷ AtLeast ∷ []
 
--- STR is of kind D, JMP, SKIP and the branches of kind A, NEG, NOT, SEND and STOP of kind -, whose number is 0. Each line's name
--- and kind stand once, so their order decides nothing
+-- STR is of kind D, JMP, SKIP and the branches of kind A, "a new order COND, kind K" (02, L5), NEG, NOT, SEND and STOP of kind -,
+-- whose number is 0. Each line's name and kind stand once, so their order decides nothing
 unfoldable pub table : List (ℕ → Order)
 table =
     map (λ f n. Word f n) operations
@@ -96,6 +99,7 @@ table =
     ∷ Jump
     ∷ Skip
     ∷ map (λ r n. Branch r n) branches
-    ++ (λ n. Send)
+    ++ Cond
+    ∷ (λ n. Send)
     ∷ (λ n. Stop)
     ∷ []

@@ -35,6 +35,7 @@ pub enum Order {
     Jump(u32),
     Skip(u32),
     Branch(Relation, u32),
+    Cond(u32),
     Send,
     Stop,
 }

@@ -9,7 +9,7 @@ use Rattle.base.proofs.Lists.{getD-map-inside, among}
 use Rattle.order.specs.declared.Operation.{Operation}
 use Rattle.order.specs.declared.Operation.the-variants.{Cmp}
 use Rattle.order.specs.declared.Order.{Order}
-use Rattle.order.specs.declared.Order.the-variants.{Word, Number, Skip, Stop}
+use Rattle.order.specs.declared.Order.the-variants.{Word, Number, Skip, Cond, Stop}
 use Rattle.order.specs.Order.{operations}
 use Rattle.order.specs.Memory.{shapes, orderOf}
 use Rattle.order.proofs.Numbers.{no-order}
@@ -63,6 +63,10 @@ pub skip-again : (k v : ℕ) → k ≡ 36 → Skip v ≡ orderOf k v
 unfolding shapes orderOf
 skip-again k v e = rw e refl
 
--- past SKIP there is none
-pub past-skip : (k v : ℕ) → 36 ≤ k → (k ≡ 36 → ⊥) → Stop ≡ orderOf k v
-past-skip k v h g = no-order k v (omega (arith, h, g))
+pub cond-again : (k v : ℕ) → k ≡ 37 → Cond v ≡ orderOf k v
+unfolding shapes orderOf
+cond-again k v e = rw e refl
+
+-- past COND there is none
+pub past-cond : (k v : ℕ) → 36 ≤ k → (k ≡ 36 → ⊥) → (k ≡ 37 → ⊥) → Stop ≡ orderOf k v
+past-cond k v h f g = no-order k v (omega (arith, h, f, g))

@@ -56,6 +56,7 @@ pub fn number_of(o: Order) -> u8
         Order::Jump(_) => 4,
         Order::Skip(_) => 36,
         Order::Branch(s, _) => branch_number(s),
+        Order::Cond(_) => 37,
         Order::Send => 1,
         Order::Stop => 0,
     }
@@ -74,6 +75,7 @@ pub fn operand_of(o: Order) -> u32
         Order::Jump(a) => a,
         Order::Skip(a) => a,
         Order::Branch(_, a) => a,
+        Order::Cond(n) => n,
         Order::Send => 0,
         Order::Stop => 0,
     }
@@ -136,6 +138,9 @@ pub fn order_of(k: u8, v: u32) -> Order
     if k == 36 {
         return Order::Skip(v);
     }
+    if k == 37 {
+        return Order::Cond(v);
+    }
     Order::Stop
 }
 
@@ -157,7 +162,7 @@ pub fn order_in(w: u64) -> Order
     ensures { λ r. ⌜ r ≡ orderIn w ⌝ }
 {
     let k = w / 4294967296;
-    if 37 <= k {
+    if 38 <= k {
         return Order::Stop;
     }
     order_of(k as u8, (w % 4294967296) as u32)

@@ -27,13 +27,13 @@ use Rattle.order_record.specs.Internal.{recordTable, headingAt}
 -- ---- headings
 
 -- the length of each, by its digit; and that it is 2 to 7
-all-lengths : each (λ k. getD recordTable (259 + k) 0 % 16) 0 37 ≡ each (λ k. length (heading (orderOf k 0))) 0 37
+all-lengths : each (λ k. getD recordTable (266 + k) 0 % 16) 0 38 ≡ each (λ k. length (heading (orderOf k 0))) 0 38
 unfolding each bytes orderOf shapes
 all-lengths = refl
 
-pub heading-length : (table : List ℕ) → table ≡ recordTable → (k x : ℕ) → x ≡ getD table (259 + k) 0 → k < 37 → x % 16 ≡ length (heading (orderOf k 0))
+pub heading-length : (table : List ℕ) → table ≡ recordTable → (k x : ℕ) → x ≡ getD table (266 + k) 0 → k < 38 → x % 16 ≡ length (heading (orderOf k 0))
 heading-length table own k x e h =
-    rw (e, own) (each-at (λ j. getD recordTable (259 + j) 0 % 16) (λ j. length (heading (orderOf j 0))) 37 all-lengths k h)
+    rw (e, own) (each-at (λ j. getD recordTable (266 + j) 0 % 16) (λ j. length (heading (orderOf j 0))) 38 all-lengths k h)
 
 module _ (k : ℕ) where
   -- a test of its length, as computed over all of them
@@ -51,21 +51,21 @@ module _ (k : ℕ) where
   heading-long = omega (arith, ltb-true 1 (length (heading (orderOf k 0))) (each-passes (λ n. ltb 1 n) refl refl))
 
 -- each stands in its row of seven bytes
-all-rows : each (λ k. take (length (heading (orderOf k 0))) (drop (7 * k) recordTable)) 0 37 ≡ each (λ k. heading (orderOf k 0)) 0 37
+all-rows : each (λ k. take (length (heading (orderOf k 0))) (drop (7 * k) recordTable)) 0 38 ≡ each (λ k. heading (orderOf k 0)) 0 38
 unfolding each bytes orderOf shapes
 all-rows = refl
 
 module _ (table : List ℕ) (own : table ≡ recordTable) (k n : ℕ) (row : List ℕ) (e : row ≡ take n (drop (7 * k) table)) where
-  row-heading : k < 37 → n ≡ length (heading (orderOf k 0)) → row ≡ heading (orderOf k 0)
+  row-heading : k < 38 → n ≡ length (heading (orderOf k 0)) → row ≡ heading (orderOf k 0)
   row-heading h f =
       rw (e, f, own)
-      (each-at (λ j. take (length (heading (orderOf j 0))) (drop (7 * j) recordTable)) (λ j. heading (orderOf j 0)) 37 all-rows k h)
+      (each-at (λ j. take (length (heading (orderOf j 0))) (drop (7 * j) recordTable)) (λ j. heading (orderOf j 0)) 38 all-rows k h)
 
-  pub row-read : (l : List ℕ) (r : Front (List ℕ)) → k < 37 → n ≡ length (heading (orderOf k 0)) → r ≡ fixed row l → r ≡ headingAt k l
+  pub row-read : (l : List ℕ) (r : Front (List ℕ)) → k < 38 → n ≡ length (heading (orderOf k 0)) → r ≡ fixed row l → r ≡ headingAt k l
   unfolding pick
-  row-read l r h f g = rw (lt-ltb k 37 h, ← row-heading h f) g
+  row-read l r h f g = rw (lt-ltb k 38 h, ← row-heading h f) g
 
-  pub row-put : (p q : Placed) → k < 37 → n ≡ length (heading (orderOf k 0)) → q ≡ putAll row p → q ≡ putAll (heading (orderOf k 0)) p
+  pub row-put : (p q : Placed) → k < 38 → n ≡ length (heading (orderOf k 0)) → q ≡ putAll row p → q ≡ putAll (heading (orderOf k 0)) p
   row-put p q h f g = rw (← row-heading h f) g
 
 -- ---- a record

@@ -31,19 +31,19 @@ pub enum Record {
 // all of it stored anew at each call. First the names and kinds, each with the tab behind it: seven bytes each, a shorter one with
 // spaces behind it. Then their lengths, as digits. Then the number of an order by a sum of its first three letters, as the character
 // whose code is 64 more; orders with a word stand for those with a number too.
-pub const RECORDS: [u8; 360] = *b"STOP\t-\tSEND\t-\tNEG\t-\t NOT\t-\t JMP\tA\t BE\tA\t  \
+pub const RECORDS: [u8; 368] = *b"STOP\t-\tSEND\t-\tNEG\t-\t NOT\t-\t JMP\tA\t BE\tA\t  \
     BNE\tA\t BLT\tA\t BLE\tA\t BGT\tA\t BGE\tA\t STR\tD\t \
     LOAD\tD\tADD\tD\t SUB\tD\t MLT\tD\t DIV\tD\t EXP\tD\t \
     SHL\tD\t SHR\tD\t AND\tD\t OR\tD\t  XOR\tD\t CMP\tD\t \
     LOAD\tK\tADD\tK\t SUB\tK\t MLT\tK\t DIV\tK\t EXP\tK\t \
-    SHL\tK\t SHR\tK\t AND\tK\t OR\tK\t  XOR\tK\t CMP\tK\t SKIP\tA\t\
-    7766656666667666666665667666666665667\
-    @@Q@@EP@GFR@@@@@SJ@@@@W@C@@@D@@dI@@@@@@@N@@@@@MUKL@@A@O@@HVB@@T@";
+    SHL\tK\t SHR\tK\t AND\tK\t OR\tK\t  XOR\tK\t CMP\tK\t SKIP\tA\tCOND\tK\t\
+    77666566666676666666656676666666656677\
+    @@Q@@EP@GFR@@@@@SJ@@@@W@C@@@D@@dI@@@e@@@N@@@@@MUKL@@A@O@@HVB@@T@";
 
 // Where the lengths begin, and the numbers by letters.
-const LENGTHS: usize = 259;
+const LENGTHS: usize = 266;
 
-const LETTERS: usize = 296;
+const LETTERS: usize = 304;
 
 // The length of a heading, that of STOP where no order has the number.
 fn heading_length(k: u8, records: &[u8]) -> usize
@@ -51,7 +51,7 @@ fn heading_length(k: u8, records: &[u8]) -> usize
     ensures exact { λ r. ⌜ r ≡ length (heading (orderOf k 0)) ⌝ }
     ensures few { λ r. ⌜ r ≤ 7 ⌝ }
 {
-    if k < 37 {
+    if k < 38 {
         return (byte_at(records, LENGTHS + k as usize) % 16) as usize;
     }
     7
@@ -62,7 +62,7 @@ fn heading_at(s: &[u8], at: usize, k: u8, records: &[u8]) -> Place
     requires { ⌜ now records ≡ recordTable ⌝ }
     ensures { λ r. ⌜ behind (now (s .entry)) r ≡ headingAt k (drop at (now (s .entry))) ⌝ }
 {
-    if k < 37 {
+    if k < 38 {
         let count = heading_length(k, records);
         return fixed_at(s, at, part(records, 7 * k as usize, count));
     }
@@ -74,7 +74,7 @@ fn put_heading(buffer: &mut [u8], at: usize, k: u8, records: &[u8]) -> usize
     requires { ⌜ now records ≡ recordTable ⌝ }
     ensures { λ r. ⌜ placed r (now (buffer .exit)) ≡ putAll (heading (orderOf k 0)) (placed at (now (buffer .entry))) ⌝ }
 {
-    if k < 37 {
+    if k < 38 {
         let count = heading_length(k, records);
         return put_fixed(buffer, at, part(records, 7 * k as usize, count));
     }
@@ -107,6 +107,10 @@ fn likely(s: &[u8], records: &[u8]) -> u8
     let b = byte_at(s, 1) as usize;
     let c = byte_at(s, 2) as usize;
     let k = byte_at(records, LETTERS + (10 * a + 8 * b + c) % 64) % 64;
+    // only an order with a word stands for one with a number too; SKIP and COND, from 24 on, do not, and COND has kind K
+    if 24 <= k {
+        return k;
+    }
     if byte_at(s, heading_length(k, records) - 2) == 75 {
         return k + 12;
     }

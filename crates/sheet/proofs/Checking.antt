@@ -1,8 +1,8 @@
 -- The tests that reading back makes of its guess say what they should: which instructions are formed as those of a sheet, and
 -- which orders are the same.
 use Prim.Native.Nat.{ℕ, _+_}
-use mathlib.Core.Path.{_≡_, refl, sym, ap₂, _∙_}
-use mathlib.Core.Bool.{Bool, true, false}
+use mathlib.Core.Path.{_≡_, refl, sym, ap, ap₂, _∙_}
+use mathlib.Core.Bool.{Bool, true, false, not}
 use mathlib.Core.List.{List, [], _∷_}
 use native.Mathlib.Omega.{arith}
 use borrow.Author.Tests.{lt-ltb, le-ltb, ltb-true, ltb-false, le-leb, leb-true, eq-eqb, eqb-true}
@@ -15,11 +15,12 @@ use Rattle.order.specs.Order.{operand}
 use Rattle.order.specs.Memory.{number, orderOf}
 use Rattle.order.proofs.Numbers.{order-again}
 use Rattle.sheet.specs.Sheet.{Expression, word, constant, negated, inverted, binary, Simple, set, send, goto}
-use Rattle.sheet.specs.Sheet.{Condition, compares, Part, end, plain, when, either, count}
+use Rattle.sheet.specs.Sheet.{Condition, compares, joins, Part, end, plain, when, either, count}
 use Rattle.sheet.specs.Formed.{IsVariable, Expressed, SimpleFormed}
-use Rattle.sheet.specs.Condition.{ConditionFormed}
+use Rattle.sheet.specs.Condition.{comparisons, isRun, Merged, AllExpressed, mostComparisons, ConditionFormed}
 use Rattle.sheet.specs.Within.{PartFormed}
-use Rattle.sheet.specs.ReadBack.{isVariable, also, isExpressed, isSimpleFormed, isConditionFormed, isPartFormed, sameOrders}
+use Rattle.sheet.specs.ReadBack.{isVariable, also, isExpressed, isSimpleFormed, allExpressed, isMerged, isConditionFormed}
+use Rattle.sheet.specs.ReadBack.{isPartFormed, sameOrders}
 
 pub also-yes : (a b : Bool) → a ≡ true → b ≡ true → also a b ≡ true
 unfolding pick
@@ -69,12 +70,49 @@ simple-told v n (set w e) x =
 simple-told v n (send e) x = expressed-told v e x
 simple-told v n (goto s) x = let two = both-yes (leb 1 s) _ x in (leb-true 1 s (two .0), leb-true s (n + 1) (two .1))
 
+-- ---- conditions
+
+all-yes : (v : ℕ) (c : Condition) → AllExpressed v c → allExpressed v c ≡ true
+unfolding AllExpressed allExpressed
+all-yes v (compares r a b) f = also-yes _ _ (expressed-yes v a (f .0)) (expressed-yes v b (f .1))
+all-yes v (joins w a b) f = also-yes _ _ (all-yes v a (f .0)) (all-yes v b (f .1))
+
+all-told : (v : ℕ) (c : Condition) → allExpressed v c ≡ true → AllExpressed v c
+unfolding AllExpressed allExpressed
+all-told v (compares r a b) f =
+    let two = both-yes (isExpressed v a) _ f in (expressed-told v a (two .0), expressed-told v b (two .1))
+all-told v (joins w a b) f =
+    let two = both-yes (allExpressed v a) _ f in (all-told v a (two .0), all-told v b (two .1))
+
+merged-yes : (c : Condition) → Merged c → isMerged c ≡ true
+unfolding Merged isMerged
+merged-yes (compares r a b) m = refl
+merged-yes (joins w a b) m =
+    also-yes _ _ (ap not (m .0)) (also-yes _ _ (merged-yes a (m .1)) (merged-yes b (m .2)))
+
+not-told : (t : Bool) → not t ≡ true → t ≡ false
+not-told true e = sym e
+not-told false e = refl
+
+merged-told : (c : Condition) → isMerged c ≡ true → Merged c
+unfolding Merged isMerged
+merged-told (compares r a b) e = tt
+merged-told (joins w a b) e =
+    let apart = both-yes (not (isRun w a)) _ e in
+    let members = both-yes (isMerged a) _ (apart .1) in
+    (not-told (isRun w a) (apart .0), merged-told a (members .0), merged-told b (members .1))
+
 condition-yes : (v : ℕ) (c : Condition) → ConditionFormed v c → isConditionFormed v c ≡ true
-condition-yes v (compares r a b) f = also-yes _ _ (expressed-yes v a (f .0)) (expressed-yes v b (f .1))
+condition-yes v c f =
+    also-yes _ _ (all-yes v c (f .0)) (also-yes _ _ (merged-yes c (f .1)) (le-leb (comparisons c) _ (omega (arith, f .2))))
 
 condition-told : (v : ℕ) (c : Condition) → isConditionFormed v c ≡ true → ConditionFormed v c
-condition-told v (compares r a b) f =
-    let two = both-yes (isExpressed v a) _ f in (expressed-told v a (two .0), expressed-told v b (two .1))
+condition-told v c f =
+    let all = both-yes (allExpressed v c) _ f in
+    let rest = both-yes (isMerged c) _ (all .1) in
+    (all-told v c (all .0), merged-told c (rest .0), omega (arith, leb-true (comparisons c) _ (rest .1)))
+
+-- ---- parts
 
 pub part-yes : (v n : ℕ) (x : Part) → PartFormed v n x → isPartFormed v n x ≡ true
 unfolding PartFormed isPartFormed

@@ -7,7 +7,7 @@ use Rattle.text.specs.Pieces.{greatestNumber}
 use Rattle.order.specs.declared.Operation.{Operation}
 use Rattle.order.specs.declared.Operation.the-variants.{Cmp}
 use Rattle.order.specs.declared.Order.{Order}
-use Rattle.order.specs.declared.Order.the-variants.{Word, Number, Store, Neg, Not, Jump, Skip, Branch, Send, Stop}
+use Rattle.order.specs.declared.Order.the-variants.{Word, Number, Store, Neg, Not, Jump, Skip, Branch, Cond, Send, Stop}
 use Rattle.sheet.specs.Sheet.{Expression, word, constant, negated, inverted, binary, workedOut, operand}
 use Rattle.sheet.specs.Orders.{operation, temporary, joined, code, comparisonCode}
 use Rattle.sheet.specs.Orders.{joinedTemporaries, temporaries, comparisonTemporaries}
@@ -24,6 +24,7 @@ OfExpression v t Not = Unit {0}
 OfExpression v t (Jump a) = ⊥
 OfExpression v t (Skip a) = ⊥
 OfExpression v t (Branch r a) = ⊥
+OfExpression v t (Cond n) = ⊥
 OfExpression v t Send = ⊥
 OfExpression v t Stop = ⊥
 
@@ -36,6 +37,7 @@ more-temporaries v t u h Not p = p
 more-temporaries v t u h (Jump a) p = p
 more-temporaries v t u h (Skip a) p = p
 more-temporaries v t u h (Branch r a) p = p
+more-temporaries v t u h (Cond n) p = p
 more-temporaries v t u h Send p = p
 more-temporaries v t u h Stop p = p
 

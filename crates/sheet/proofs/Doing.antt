@@ -1,8 +1,7 @@
--- The orders of an instruction that is no IF do what it does, and those of a comparison lead to where its answer leads, with the
--- same count and the same fault.
+-- The orders of an instruction that is no IF do what it does, with the same count and the same fault.
 use Prim.Native.Nat.{ℕ, _+_, _*_, _/_, _<_, _≤_}
 use mathlib.Core.Path.{_≡_, refl, sym, ap, _∙_}
-use mathlib.Core.Bool.{Bool, true, false, not}
+use mathlib.Core.Bool.{true, false}
 use mathlib.Core.List.{List, [], _∷_, _++_, append-nil, append-assoc}
 use native.Mathlib.Omega.{arith}
 use native.Mathlib.Nat.{zero-add}
@@ -12,23 +11,18 @@ use lib.Seq.{sets, length-sets, set-append-left, getD-set-same, getD-set-other}
 use Rattle.base.specs.Choice.{pick}
 use Rattle.base.proofs.Cases.{by-test, by-less, by-equal}
 use Rattle.base.proofs.Lists.{sets-append}
-use Rattle.word.specs.declared.Relation.{Relation}
-use Rattle.word.specs.declared.Relation.the-variants.{Equal, Unequal, Less, AtMost, Greater, AtLeast}
-use Rattle.word.specs.Word.{signed, related, relatedToZero, comparison}
-use Rattle.word.proofs.Comparison.{at-most-not}
-use Rattle.order.specs.declared.Operation.the-variants.{Cmp}
 use Rattle.order.specs.declared.Order.{Order}
-use Rattle.order.specs.declared.Order.the-variants.{Store as Str, Jump, Branch, Send, Stop}
-use Rattle.machine.specs.Machine.{Machine, machine, goTo, advance, done, failed, effect, wordBytes, send as sends}
+use Rattle.order.specs.declared.Order.the-variants.{Store as Str, Jump, Send, Stop}
+use Rattle.machine.specs.Machine.{Machine, done, failed, effect, wordBytes, send as sends}
 use Rattle.machine.specs.Frame.{Words}
-use Rattle.sheet.specs.Sheet.{Expression, Simple, set, send, goto, operand}
-use Rattle.sheet.specs.Orders.{code, simpleCode, comparisonCode, opposite, temporaries, simpleTemporaries, comparisonTemporaries}
+use Rattle.sheet.specs.Sheet.{Expression, Simple, set, send, goto}
+use Rattle.sheet.specs.Orders.{code, simpleCode, temporaries, simpleTemporaries}
 use Rattle.sheet.specs.Formed.{Expressed, Leads, SimpleFormed}
-use Rattle.sheet.specs.Worth.{Counted, gives, faults, behind, andThen, both, worth, holds, Store, Next, onward, at, sending, doSimple}
+use Rattle.sheet.specs.Worth.{Counted, gives, faults, worth, Store, Next, onward, at, sending, doSimple}
 use Rattle.sheet.specs.Following.{sentBytes}
-use Rattle.sheet.proofs.Reach.{behind-last, here, Reaches, at-once, Stands, stands-first, stands-left, stands-last, carried-out, not-carried-out}
-use Rattle.sheet.proofs.Values.{Small, small-worth, compared}
-use Rattle.sheet.proofs.Simulation.{Comes, lands, fails, comes-behind, comes-then, comes-each, Landed, landed, Lost, lost, works, joins, plain-operand}
+use Rattle.sheet.proofs.Reach.{behind-last, here, at-once, Stands, stands-first, stands-left, stands-last, carried-out, not-carried-out}
+use Rattle.sheet.proofs.Values.{Small, small-worth}
+use Rattle.sheet.proofs.Simulation.{Comes, lands, fails, comes-then, comes-each, Landed, landed, Lost, lost, works}
 
 -- ---- the numbers sent
 
@@ -57,36 +51,6 @@ room-left m b room h = rw h refl
 no-room-left : (m : Store) (b room : ℕ) → ltb (length (m .sent)) room ≡ false → sending room m b ≡ faults 4 0
 unfolding sending pick
 no-room-left m b room h = rw h refl
-
--- ---- a branch of the opposite relation
-
-not-not : (t : Bool) → t ≡ not (not t)
-not-not true = refl
-not-not false = refl
-
-opposite-holds : (r : Relation) (a b : ℕ) → related (opposite r) a b ≡ not (related r a b)
-opposite-holds Equal a b = refl
-opposite-holds Unequal a b = not-not _
-opposite-holds Less a b = at-most-not (signed b) (signed a)
-opposite-holds AtMost a b = not-not _ ∙ ap not (sym (at-most-not (signed a) (signed b)))
-opposite-holds Greater a b = at-most-not (signed a) (signed b)
-opposite-holds AtLeast a b = not-not _ ∙ ap not (sym (at-most-not (signed b) (signed a)))
-
-branch-or-not :
-    (yes-so no-so : Bool) (z q d c : ℕ) (ws out : List ℕ)
-    → no-so ≡ not yes-so
-    → done
-    (machine
-    (pick
-    no-so
-    (goTo d (record { acc = z; next = q; sent = c; ending = 0 }))
-    (advance z (record { acc = z; next = q; sent = c; ending = 0 })))
-    ws
-    out)
-    ≡ done (here z (pick yes-so (q + 1) d) c ws out)
-unfolding pick
-branch-or-not true no-so z q d c ws out e = rw e refl
-branch-or-not false no-so z q d c ws out e = rw e refl
 
 -- ---- the program: its orders, V, T, the output at the start, and where GOTO leads
 
@@ -261,99 +225,3 @@ module _ (os : List Order) (v t n : ℕ) (out : List ℕ) (to : ℕ → ℕ) whe
         _
         (carried-out os a p (length (m .sent)) (m .words ++ ts) (sets out 0 (sentBytes (m .sent))) (Jump (to j)) _ (stands-first os p _ _ s) refl)
         (gone-to j m a ts x long sound)
-
-    -- ---- IF
-
-    module _ (r : Relation) (x y : Expression) (fx : Expressed v x) (fy : Expressed v y) where
-      compares :
-          (a p : ℕ) (ts : List ℕ)
-          → length ts ≡ t
-          → comparisonTemporaries x y ≤ t
-          → Stands os p (comparisonCode v x y)
-          → Comes
-          os
-          (LandedAt (p + length (comparisonCode v x y)) ts)
-          Faulting
-          (holding m a p ts)
-          (both (λ b d. gives (comparison b d) 1) (m .words) (operand y) (worth (m .words) x) (worth (m .words) y))
-      compares a p ts long room s =
-          joins
-          os
-          v
-          (length (m .sent))
-          t
-          (m .words)
-          (sets out 0 (sentBytes (m .sent)))
-          (sound .as-many)
-          Cmp
-          (λ b d. gives (comparison b d) 1)
-          0
-          (temporaries x)
-          (temporaries y)
-          (operand y)
-          (code v 0 x)
-          (code v 1 y)
-          (worth (m .words) x)
-          (worth (m .words) y)
-          (λ b d. refl)
-          (plain-operand os v (length (m .sent)) t (m .words) (sets out 0 (sentBytes (m .sent))) (sound .as-many) y fy)
-          (works os v (length (m .sent)) t (m .words) (sets out 0 (sentBytes (m .sent))) (sound .as-many) x 0 fx)
-          (works os v (length (m .sent)) t (m .words) (sets out 0 (sentBytes (m .sent))) (sound .as-many) y 1 fy)
-          a
-          p
-          ts
-          long
-          (omega (arith, room))
-          s
-
-      -- behind the comparison, the branch: on past it, or to where it leads
-      branches :
-          (z q d : ℕ) (us : List ℕ)
-          → getD os q Stop ≡ Branch (opposite r) d
-          → Reaches os 1 (holding m z q us) (holding m z (pick (relatedToZero r z) (q + 1) d) us)
-      branches z q d us e =
-          carried-out
-          os
-          z
-          q
-          (length (m .sent))
-          (m .words ++ us)
-          (sets out 0 (sentBytes (m .sent)))
-          (Branch (opposite r) d)
-          _
-          e
-          (branch-or-not (relatedToZero r z) (relatedToZero (opposite r) z) z q d (length (m .sent)) (m .words ++ us) (sets out 0 (sentBytes (m .sent))) (opposite-holds r z 0))
-
-      -- what follows from the answer: `more` where the relation holds, `less` where it does not
-      module _ {A : Type 0} (p d : ℕ) (Land : A → Machine → Type 0) (more less : Counted A) where
-        abbrev answered : Bool → Counted A
-        answered yes-so = pick yes-so more less
-
-        pub chooses :
-            (a : ℕ) (ts : List ℕ)
-            → length ts ≡ t
-            → comparisonTemporaries x y ≤ t
-            → Stands os p (comparisonCode v x y)
-            → getD os (p + length (comparisonCode v x y)) Stop ≡ Branch (opposite r) d
-            → ((z : ℕ) (us : List ℕ) → length us ≡ t → Comes os Land Faulting (holding m z (p + length (comparisonCode v x y) + 1) us) more)
-            → ((z : ℕ) (us : List ℕ) → length us ≡ t → Comes os Land Faulting (holding m z d us) less)
-            → Comes os Land Faulting (holding m a p ts) (andThen (holds (m .words) r x y) answered)
-        unfolding pick
-        chooses a ts long room s branch on past-it =
-            rw (compared (m .words) (sound .words-all) v r x y answered fx fy)
-            (comes-then os (holding m a p ts) _ (λ z. behind 1 (answered (relatedToZero r z))) (compares a p ts long room s) on-answer)
-          where
-            by-answer : (z : ℕ) (us : List ℕ) → length us ≡ t → (yes-so : Bool) → Comes os Land Faulting (holding m z (pick yes-so (p + length (comparisonCode v x y) + 1) d) us) (answered yes-so)
-            by-answer z us still true = on z us still
-            by-answer z us still false = past-it z us still
-
-            on-answer : (z : ℕ) (k : Machine) → LandedAt (p + length (comparisonCode v x y)) ts z k → Comes os Land Faulting k (behind 1 (answered (relatedToZero r z)))
-            on-answer z k (landed us still keeps) =
-                comes-behind
-                os
-                1
-                _
-                _
-                (answered (relatedToZero r z))
-                (branches z (p + length (comparisonCode v x y)) d us branch)
-                (by-answer z us still (relatedToZero r z))

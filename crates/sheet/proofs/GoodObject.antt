@@ -2,21 +2,23 @@
 -- those of its orders, and STOP is its last order alone.
 use Prim.Native.Nat.{ℕ, _+_, _-_, _≤_, _<_}
 use mathlib.Core.Path.{_≡_, refl, ap, _∙_}
-use mathlib.Core.Bool.{false}
+use mathlib.Core.Bool.{Bool, true, false}
 use mathlib.Core.List.{List, [], _∷_, _++_}
 use native.Mathlib.Omega.{arith}
 use lib.ListN.{length, getD, length-append, List·getD-append}
 use lib.Seq.{getD-append-seam}
+use Rattle.base.specs.Choice.{pick}
 use Rattle.order.specs.declared.Order.{Order}
-use Rattle.order.specs.declared.Order.the-variants.{Word, Number, Store, Neg, Not, Jump, Skip, Branch, Send, Stop}
+use Rattle.order.specs.declared.Order.the-variants.{Word, Number, Store, Neg, Not, Jump, Skip, Branch, Cond, Send, Stop}
 use Rattle.order.specs.Object.{isStop}
 use Rattle.order.specs.Limits.{mostVariables, mostTemporaries, mostOrders}
 use Rattle.order.specs.Good.{OperandFits, Good}
 use Rattle.order.proofs.OrderTests.{not-stop}
-use Rattle.sheet.specs.Sheet.{Simple, set, send, goto, Condition, compares, Part, end, plain, when, either, count, Sheet, sheet, variables}
+use Rattle.sheet.specs.Sheet.{Simple, set, send, goto, Condition, compares, joins, Part, end, plain, when, either, count, Sheet, sheet, variables}
+use Rattle.sheet.specs.declared.Joining.the-variants.{And, Or}
 use Rattle.sheet.specs.Orders.{code, simpleCode, simpleSize, comparisonCode, temporaries, simpleTemporaries, comparisonTemporaries}
 use Rattle.sheet.specs.Formed.{Leads, SimpleFormed}
-use Rattle.sheet.specs.Condition.{asking, askingCode, conditionTemporaries, ConditionFormed}
+use Rattle.sheet.specs.Condition.{trying, tryCode, asking, askingCode, conditionTemporaries, AllExpressed, ConditionFormed}
 use Rattle.sheet.specs.Translation.{size, firstOrder, partCode, translation, temporariesOf, sheetTemporaries}
 use Rattle.sheet.specs.Within.{PartFormed, Within}
 use Rattle.sheet.proofs.Each.{Each, each-append, each-map, each-at}
@@ -39,23 +41,55 @@ module _ (v t n : ℕ) where
   expression-held u h (Jump a) p = absurd p
   expression-held u h (Skip a) p = absurd p
   expression-held u h (Branch r a) p = absurd p
+  expression-held u h (Cond k) p = absurd p
   expression-held u h Send p = absurd p
   expression-held u h Stop p = absurd p
 
   all-held : (u : ℕ) → u ≤ t → (l : List Order) → Each (OfExpression v u) l → Each (Held v t n) l
   all-held u h = each-map (OfExpression v u) (Held v t n) (expression-held u h)
 
+  either-below : (g : Bool) (y z : ℕ) → y < n → z < n → pick g z y < n
+  unfolding pick
+  either-below true y z h k = k
+  either-below false y z h k = h
+
+  try-held :
+      (p : ℕ) (g : Bool) (y z : ℕ) (c : Condition)
+      → AllExpressed v c
+      → conditionTemporaries c ≤ t
+      → p + trying v c < n
+      → y < n
+      → z < n
+      → Each (Held v t n) (tryCode v p g y z c)
+  unfolding tryCode conditionTemporaries AllExpressed trying
+  try-held p g y z (compares r a b) f h e i j =
+      each-append (Held v t n) (comparisonCode v a b) _
+      (all-held (comparisonTemporaries a b) h (comparisonCode v a b) (comparison-orders v a b (f .0) (f .1)))
+      (record { fits = either-below g y z i j; goes-on = refl }, tt)
+  try-held p g y z (joins And a b) f h e i j =
+      let q = p + trying v a in
+      each-append (Held v t n) (tryCode v p true q z a) _
+      (try-held p true q z a (f .0) (omega arith) (omega arith) (omega arith) j)
+      (try-held q g y z b (f .1) (omega arith) (omega arith) i j)
+  try-held p g y z (joins Or a b) f h e i j =
+      let q = p + trying v a in
+      each-append (Held v t n) (tryCode v p false y q a) _
+      (try-held p false y q a (f .0) (omega arith) (omega arith) i (omega arith))
+      (try-held q g y z b (f .1) (omega arith) (omega arith) i j)
+
   asking-held :
       (p : ℕ) (c : Condition) (d : ℕ)
       → ConditionFormed v c
       → conditionTemporaries c ≤ t
+      → p + asking v c < n
       → d < n
       → Each (Held v t n) (askingCode v p c d)
-  unfolding askingCode conditionTemporaries
-  asking-held p (compares r a b) d f h k =
-      each-append (Held v t n) (comparisonCode v a b) _
-      (all-held (comparisonTemporaries a b) h (comparisonCode v a b) (comparison-orders v a b (f .0) (f .1)))
-      (record { fits = k; goes-on = refl }, tt)
+  unfolding askingCode asking
+  asking-held p (compares r a b) d f h e k = try-held p true _ d (compares r a b) (f .0) h e e k
+  asking-held p (joins w a b) d f h e k = (
+    record { fits = omega (arith, f .2); goes-on = refl },
+    try-held (p + 1) true _ d (joins w a b) (f .0) h (omega arith) e k,
+  )
 
   module _ (m : ℕ) (to : ℕ → ℕ) (leads-below : (s : ℕ) → Leads m s → to s < n) where
     simple-held : (u : Simple) → SimpleFormed v m u → simpleTemporaries u ≤ t → Each (Held v t n) (simpleCode v to u)
@@ -84,7 +118,7 @@ module _ (v t n : ℕ) where
     part-held p (when c x l) f h k =
         let b = p + asking v c in
         each-append (Held v t n) (askingCode v p c _) _
-        (asking-held p c _ (f .0) (omega arith) (omega arith))
+        (asking-held p c _ (f .0) (omega arith) (omega arith) (omega arith))
         (each-append (Held v t n) (partCode v to b x) _
         (part-held b x (f .2) (omega arith) (omega arith))
         (part-held (b + size v x) l (f .3) (omega arith) (omega arith)))
@@ -92,7 +126,7 @@ module _ (v t n : ℕ) where
         let b = p + asking v c in
         let d = b + size v x + 1 in
         each-append (Held v t n) (askingCode v p c _) _
-        (asking-held p c _ (f .0) (omega arith) (omega arith))
+        (asking-held p c _ (f .0) (omega arith) (omega arith) (omega arith))
         (each-append (Held v t n) (partCode v to b x) _
         (part-held b x (f .3) (omega arith) (omega arith)) (
           record { fits = omega arith; goes-on = refl },

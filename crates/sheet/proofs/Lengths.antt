@@ -10,10 +10,11 @@ use Rattle.order.specs.declared.Operation.the-variants.{Cmp}
 use Rattle.order.specs.declared.Order.{Order}
 use Rattle.order.specs.declared.Order.the-variants.{Stop}
 use Rattle.sheet.specs.Sheet.{Expression, word, constant, negated, inverted, binary, operand, Simple, set, send, goto}
-use Rattle.sheet.specs.Sheet.{Condition, compares, Part, end, plain, when, either, Sheet, sheet}
-use Rattle.sheet.specs.Fields.{expressionFields, simpleFields, conditionFields, partFields, sheetFields}
+use Rattle.sheet.specs.Sheet.{Condition, compares, joins, Part, end, plain, when, either, Sheet, sheet}
+use Rattle.sheet.specs.Fields.{expressionFields, simpleFields}
+use Rattle.sheet.specs.Memory.{conditionFields, partFields, sheetFields}
 use Rattle.sheet.specs.Orders.{operation, joined, code, simpleSize}
-use Rattle.sheet.specs.Condition.{asking}
+use Rattle.sheet.specs.Condition.{trying, asking}
 use Rattle.sheet.specs.Translation.{size, partCode, firstOrder, translation}
 use Rattle.sheet.specs.Within.{Within}
 use Rattle.sheet.proofs.Sizes.{code-length}
@@ -54,16 +55,23 @@ simple-few v (set w e) = simp length-append (omega (arith, expression-few v 0 e)
 simple-few v (send e) = simp length-append (omega (arith, expression-few v 0 e))
 simple-few v (goto s) = omega arith
 
--- with IF, START and FINISH
-pub condition-few : (v : ℕ) (c : Condition) → length (conditionFields c) + 3 ≤ 2 * asking v c
-unfolding asking
-condition-few v (compares r a b) =
+trying-few : (v : ℕ) (c : Condition) → length (conditionFields c) + 3 ≤ 2 * trying v c
+unfolding trying conditionFields
+trying-few v (compares r a b) =
     omega (
       arith,
       length-append (expressionFields a) (expressionFields b),
       expression-few v 0 a,
       joined-few Cmp v 0 b (code v 0 a) (code v 1 b) (expression-few v 1 b),
     )
+trying-few v (joins w a b) =
+    omega (arith, length-append (conditionFields a) (conditionFields b), trying-few v a, trying-few v b)
+
+-- with IF, START and FINISH
+pub condition-few : (v : ℕ) (c : Condition) → length (conditionFields c) + 3 ≤ 2 * asking v c
+unfolding asking
+condition-few v (compares r a b) = trying-few v (compares r a b)
+condition-few v (joins w a b) = omega (arith, trying-few v (joins w a b))
 
 pub part-few : (v : ℕ) (x : Part) → length (partFields x) ≤ 2 * size v x
 unfolding partFields size

@@ -10,6 +10,7 @@ pub mod GoodObject
 pub mod Guessing
 pub mod Lasts
 pub mod Lengths
+pub mod Merging
 pub mod Moving
 pub mod Objects
 pub mod Places
@@ -21,5 +22,7 @@ pub mod Simulation
 pub mod Sizes
 pub mod Starts
 pub mod Temporaries
+pub mod Trees
+pub mod Trying
 pub mod Values
 pub mod Worked

@@ -16,7 +16,7 @@ use Rattle.sheet.specs.Condition.{asking, askingCode, conditionTemporari
 use Rattle.sheet.specs.Translation.{size, starts, partCode, temporariesOf}
 use Rattle.sheet.specs.Within.{PartFormed}
 use Rattle.sheet.specs.Meaning.{Way, Move, deed, question, straight, overSkip, wayTo, moves, Progress, moveAt}
-use Rattle.sheet.proofs.Reach.{here, Reaches, at-once, and-on, Stands, stands-first, stands-left, stands-right, stands-rest, carried-out}
+use Rattle.sheet.proofs.Reach.{here, Reaches, at-once, and-on, Stands, stands-first, stands-left, stands-behind, stands-rest, carried-out}
 use Rattle.sheet.proofs.Sizes.{simple-length, asking-length, count-starts, code-length}
 
 -- a program: its orders, V, T, how many instructions it has, and where GOTO leads
@@ -124,9 +124,6 @@ module _ (os : List Order) (v t n : ℕ) (to : ℕ → ℕ) where
 
   -- ---- a part, which stands from order p to order q; its first instruction has the number i
 
-  stands-at : (q d : ℕ) (l : List Order) → q ≡ d → Stands os q l → Stands os d l
-  stands-at q d l e s = rw e at s
-
   pub places :
       (x : Part) (p q i : ℕ) (w : Way)
       → p + size v x ≡ q
@@ -147,14 +144,14 @@ module _ (os : List Order) (v t n : ℕ) (to : ℕ → ℕ) where
       (deeds u (wayTo (suc i) w l) (f .0) (omega arith) (stands-left os p (simpleCode v to u) _ s)
       (lead-at d _ _ (sym here-is) (way-leads l d q (suc i) w (omega arith) (h .1) (omega arith) (omega arith) lead)))
       (places l d q (suc i) w (omega arith) (f .1) (omega arith) (h .1) (omega arith) (omega arith)
-      (stands-at _ d _ here-is (stands-right os p (simpleCode v to u) _ s)) lead)
+      (stands-behind os p (simpleSize v u) (simpleCode v to u) _ (simple-length v to u) s) lead)
   places (when c x l) p q i w e f room h g k s lead =
       let b = p + asking v c in
       let z = b + size v x in
       let j = suc i + count x in
       let many = count-starts v b x in
       let numbers = numbers-append (suc i) j (starts v b x) (starts v z l) (omega arith) (h .1) in
-      let bodies = stands-at _ b _ (ap (λ k. p + k) (asking-length v p c z)) (stands-right os p (askingCode v p c z) _ s) in
+      let bodies = stands-behind os p (asking v c) (askingCode v p c z) _ (asking-length v p c z) s in
       let lead-on : Leading z (wayTo j w l) = way-leads l z q j w (omega arith) (numbers .1) (omega arith) (omega arith) lead in
       more
       (questions c (straight (suc i)) (wayTo j w l) z (f .0) (omega arith)
@@ -165,7 +162,7 @@ module _ (os : List Order) (v t n : ℕ) (to : ℕ → ℕ) where
       (places x b z (suc i) (wayTo j w l) refl (f .2) (omega arith) (numbers .0) (omega arith) (omega arith)
       (stands-left os b (partCode v to b x) _ bodies) lead-on)
       (places l z q j w (omega arith) (f .3) (omega arith) (numbers .1) (omega arith) (omega arith)
-      (stands-at _ z _ (ap (λ k. b + k) (code-length v to b x)) (stands-right os b (partCode v to b x) _ bodies)) lead))
+      (stands-behind os b (size v x) (partCode v to b x) _ (code-length v to b x) bodies) lead))
   places (either c x y l) p q i w e f room h g k s lead =
       let b = p + asking v c in
       let d = b + size v x + 1 in
@@ -176,8 +173,8 @@ module _ (os : List Order) (v t n : ℕ) (to : ℕ → ℕ) where
       let second-many = count-starts v d y in
       let numbers = numbers-append (suc i) j (starts v b x) _ (omega arith) (h .1) in
       let more-numbers = numbers-append j m (starts v d y) (starts v z l) (omega arith) (numbers .1) in
-      let bodies = stands-at _ b _ (ap (λ k. p + k) (asking-length v p c d)) (stands-right os p (askingCode v p c d) _ s) in
-      let skip-on = stands-at _ (b + size v x) _ (ap (λ k. b + k) (code-length v to b x)) (stands-right os b (partCode v to b x) _ bodies) in
+      let bodies = stands-behind os p (asking v c) (askingCode v p c d) _ (asking-length v p c d) s in
+      let skip-on = stands-behind os b (size v x) (partCode v to b x) _ (code-length v to b x) bodies in
       let seconds = stands-rest os (b + size v x) (Skip z) _ skip-on in
       let lead-on : Leading z (wayTo m w l) = way-leads l z q m w (omega arith) (more-numbers .1) (omega arith) (omega arith) lead in
       more
@@ -194,7 +191,7 @@ module _ (os : List Order) (v t n : ℕ) (to : ℕ → ℕ) where
       (stands-left os d (partCode v to d y) _ seconds)
       lead-on)
       (places l z q m w (omega arith) (f .5) (omega arith) (more-numbers .1) (omega arith) (omega arith)
-      (stands-at _ z _ (ap (λ k. d + k) (code-length v to d y)) (stands-right os d (partCode v to d y) _ seconds))
+      (stands-behind os d (size v y) (partCode v to d y) _ (code-length v to d y) seconds)
       lead)))
 
 -- ---- the instruction with a number

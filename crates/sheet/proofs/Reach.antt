@@ -70,6 +70,10 @@ module _ (os : List Order) where
             ∙ getD-append-add l r i Stop;
       }
 
+  -- there are k orders before them
+  pub stands-behind : (p k : ℕ) (l r : List Order) → length l ≡ k → Stands p (l ++ r) → Stands (p + k) r
+  stands-behind p k l r e s = rw e at (stands-right p l r s)
+
   pub stands-last : (p : ℕ) (l : List Order) (o : Order) → Stands p (l ++ o ∷ []) → getD os (p + length l) Stop ≡ o
   stands-last p l o s = stands-first (p + length l) o [] (stands-right p l (o ∷ []) s)
 

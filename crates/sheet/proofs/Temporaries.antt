@@ -1,6 +1,7 @@
 -- T is the largest temporary that an order of the translation stores to: no more, and no fewer.
 use Prim.Native.Nat.{ℕ, suc, _+_, max}
 use mathlib.Core.Path.{_≡_, refl, sym, ap, ap₂, _∙_}
+use mathlib.Core.Bool.{Bool, true, false}
 use mathlib.Core.List.{List, [], _∷_, _++_}
 use native.Mathlib.Omega.{arith}
 use borrow.Author.Tests.{eq-eqb, ne-eqb}
@@ -12,11 +13,12 @@ use Rattle.order.specs.declared.Operation.the-variants.{Load, Cmp}
 use Rattle.order.specs.declared.Order.{Order}
 use Rattle.order.specs.declared.Order.the-variants.{Word, Number, Store, Neg, Not, Skip, Branch, Send, Stop}
 use Rattle.sheet.specs.Sheet.{Expression, word, constant, negated, inverted, binary, Operand, inWord, itself, workedOut, operand}
-use Rattle.sheet.specs.Sheet.{Simple, set, send, goto, Condition, compares, Part, end, plain, when, either, count, Sheet, sheet, variables}
-use Rattle.sheet.specs.Orders.{operation, temporary, joined, code, simpleCode, simpleSize, opposite, comparisonCode}
+use Rattle.sheet.specs.Sheet.{Simple, set, send, goto, Condition, compares, joins, Part, end, plain, when, either, count, Sheet, sheet, variables}
+use Rattle.sheet.specs.declared.Joining.the-variants.{And, Or}
+use Rattle.sheet.specs.Orders.{operation, temporary, joined, code, simpleCode, simpleSize, comparisonCode}
 use Rattle.sheet.specs.Orders.{joinedTemporaries, temporaries, simpleTemporaries, comparisonTemporaries}
 use Rattle.sheet.specs.Formed.{SimpleFormed}
-use Rattle.sheet.specs.Condition.{asking, askingCode, conditionTemporaries}
+use Rattle.sheet.specs.Condition.{trying, leaving, tryCode, asking, askingCode, conditionTemporaries}
 use Rattle.sheet.specs.Translation.{size, firstOrder, partCode, translation, temporariesOf, sheetTemporaries}
 use Rattle.sheet.specs.Temporaries.{temporaryOf, storedTo, largestStored}
 use Rattle.sheet.specs.Within.{PartFormed, Formed}
@@ -125,12 +127,23 @@ module _ (v : ℕ) where
       let same = code-stored 0 e ∙ raised-zero (temporaries e) in
       omega (arith, all, same, none)
 
-  asking-stored : (p : ℕ) (c : Condition) (d : ℕ) → largestStored v (askingCode v p c d) ≡ conditionTemporaries c
-  unfolding askingCode conditionTemporaries largestStored
-  asking-stored p (compares r a b) d =
-      let all = stored-append (comparisonCode v a b) (Branch (opposite r) d ∷ []) in
+  try-stored : (p : ℕ) (g : Bool) (y z : ℕ) (c : Condition) → largestStored v (tryCode v p g y z c) ≡ conditionTemporaries c
+  unfolding tryCode conditionTemporaries largestStored
+  try-stored p g y z (compares r a b) =
+      let all = stored-append (comparisonCode v a b) (Branch (leaving g r) (pick g z y) ∷ []) in
       let same = comparison-stored a b in
       omega (arith, all, same)
+  try-stored p g y z (joins And a b) =
+      let q = p + trying v a in
+      stored-append (tryCode v p true q z a) _ ∙ ap₂ max (try-stored p true q z a) (try-stored q g y z b)
+  try-stored p g y z (joins Or a b) =
+      let q = p + trying v a in
+      stored-append (tryCode v p false y q a) _ ∙ ap₂ max (try-stored p false y q a) (try-stored q g y z b)
+
+  asking-stored : (p : ℕ) (c : Condition) (d : ℕ) → largestStored v (askingCode v p c d) ≡ conditionTemporaries c
+  unfolding askingCode largestStored
+  asking-stored p (compares r a b) d = try-stored p true _ d (compares r a b)
+  asking-stored p (joins w a b) d = omega (arith, try-stored (p + 1) true (p + asking v (joins w a b)) d (joins w a b))
 
   module _ (m : ℕ) (to : ℕ → ℕ) where
     -- SET stores to a variable

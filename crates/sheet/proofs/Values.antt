@@ -1,7 +1,6 @@
 -- What an expression is worth is a word, and every instruction takes an order at least.
 use Prim.Native.Nat.{ℕ, _+_, _<_, _≤_}
 use mathlib.Core.Path.{_≡_, refl, sym, ap, _∙_}
-use mathlib.Core.Bool.{Bool}
 use mathlib.Core.List.{List}
 use native.Mathlib.Omega.{arith}
 use native.Mathlib.Nat.{add-assoc}
@@ -15,11 +14,12 @@ use Rattle.machine.proofs.Effects.{Given, gives as worked, faults as faulting, 
 use Rattle.sheet.specs.declared.Operator.{Operator}
 use Rattle.sheet.specs.declared.Operator.the-variants.{Plus, Minus, Times, Over, Power, Left, Right, And, Or, Unlike}
 use Rattle.sheet.specs.Sheet.{Expression, word, constant, negated, inverted, binary, Operand, inWord, itself, workedOut, operand}
-use Rattle.sheet.specs.Sheet.{Simple, set, send, goto, Condition, compares}
+use Rattle.sheet.specs.Sheet.{Simple, set, send, goto, Condition, compares, joins}
+use Rattle.sheet.specs.declared.Joining.the-variants.{And as AndRun, Or as OrRun}
 use Rattle.sheet.specs.Orders.{operation}
 use Rattle.sheet.specs.Formed.{Expressed}
 use Rattle.sheet.specs.Worth.{Counted, gives, faults, behind, andThen, byOrder, apply, both, worth, holds, Store, doSimple}
-use Rattle.sheet.specs.Condition.{answer}
+use Rattle.sheet.specs.Condition.{tried, answer}
 use Rattle.sheet.specs.Meaning.{Move, deed, question, doMove}
 
 -- ---- what holds of that which is given
@@ -127,6 +127,10 @@ some-behind : {A : Type 0} (k : ℕ) (x : Counted A) → 1 ≤ k → Some (behin
 some-behind k (gives a j) h = omega (arith, h)
 some-behind k (faults n j) h = omega (arith, h)
 
+some-later : {A : Type 0} (k : ℕ) (x : Counted A) → Some x → Some (behind k x)
+some-later k (gives a j) h = omega (arith, h)
+some-later k (faults n j) h = omega (arith, h)
+
 some-then : {A B : Type 0} (x : Counted A) (f : A → Counted B) → Some x → Some (andThen x f)
 some-then (gives a k) f h = some-behind k (f a) h
 some-then (faults n k) f h = h
@@ -152,14 +156,21 @@ some-simple room m (set w e) = some-then (worth (m .words) e) _ (some-worth (m .
 some-simple room m (send e) = some-then (worth (m .words) e) _ (some-worth (m .words) e)
 some-simple room m (goto s) = omega arith
 
+some-tried : (ws : List ℕ) (c : Condition) → Some (tried ws c)
+unfolding tried
+some-tried ws (compares r a b) = some-holds ws r a b
+some-tried ws (joins AndRun a b) = some-then (tried ws a) _ (some-tried ws a)
+some-tried ws (joins OrRun a b) = some-then (tried ws a) _ (some-tried ws a)
+
 some-answer : (ws : List ℕ) (c : Condition) → Some (answer ws c)
-some-answer ws (compares r a b) = some-holds ws r a b
+some-answer ws (compares r a b) = some-tried ws (compares r a b)
+some-answer ws (joins w a b) = some-later _ (tried ws (joins w a b)) (some-tried ws (joins w a b))
 
 pub some-move : (room : ℕ) (m : Store) (x : Move) → Some (doMove room m x)
 some-move room m (deed u w) = some-then (doSimple room m u) _ (some-simple room m u)
 some-move room m (question c yes-way no-way) = some-then (answer (m .words) c) _ (some-answer (m .words) c)
 
--- ---- a comparison, and what follows from its answer
+-- ---- a comparison in two steps
 
 behind-behind : {A : Type 0} (k j : ℕ) (x : Counted A) → behind (k + j) x ≡ behind k (behind j x)
 behind-behind k j (gives a i) = ap (gives a) (add-assoc k j i)
@@ -169,36 +180,34 @@ then-behind : {A B : Type 0} (k : ℕ) (x : Counted A) (f : A → Counted B) →
 then-behind k (gives a j) f = behind-behind k j (f a)
 then-behind k (faults n j) f = refl
 
--- two ways to go on alike, from the value on
+-- f is g and then K, where the value is as P says
 then-alike :
-    {A B C : Type 0} (P : A → Type 0) (x : Counted A) (f : A → Counted B) (g : A → Counted C) {D : Type 0} (K : B → Counted D) (L : C → Counted D)
+    {A B C : Type 0} (P : A → Type 0) (x : Counted A) (f : A → Counted B) (g : A → Counted C) (K : C → Counted B)
     → Each P x
-    → ((a : A) → P a → andThen (f a) K ≡ andThen (g a) L)
-    → andThen (andThen x f) K ≡ andThen (andThen x g) L
-then-alike P (gives a k) f g K L p on = then-behind k (f a) K ∙ ap (behind k) (on a p) ∙ sym (then-behind k (g a) L)
-then-alike P (faults n k) f g K L p on = refl
+    → ((a : A) → P a → f a ≡ andThen (g a) K)
+    → andThen x f ≡ andThen (andThen x g) K
+then-alike P (gives a k) f g K p on = ap (behind k) (on a p) ∙ sym (then-behind k (g a) K)
+then-alike P (faults n k) f g K p on = refl
 
 module _ (ws : List ℕ) (words : Words ws) where
   both-alike :
-      {B C D : Type 0} (f : ℕ → ℕ → Counted B) (g : ℕ → ℕ → Counted C) (K : B → Counted D) (L : C → Counted D)
-      (x : Operand) (left right : Counted ℕ)
-      → ((a b : ℕ) → Small a → Small b → andThen (f a b) K ≡ andThen (g a b) L)
+      {B C : Type 0} (f : ℕ → ℕ → Counted B) (g : ℕ → ℕ → Counted C) (K : C → Counted B) (x : Operand) (left right : Counted ℕ)
+      → ((a b : ℕ) → Small a → Small b → f a b ≡ andThen (g a b) K)
       → SmallOperand x
       → Each Small left
       → Each Small right
-      → andThen (both f ws x left right) K ≡ andThen (both g ws x left right) L
-  both-alike f g K L (inWord w) left right on small p q =
-      then-alike Small left (λ a. f a (getD ws w 0)) (λ a. g a (getD ws w 0)) K L p (λ a h. on a (getD ws w 0) h (words w))
-  both-alike f g K L (itself n) left right on small p q =
-      then-alike Small left (λ a. f a n) (λ a. g a n) K L p (λ a h. on a n h small)
-  both-alike f g K L workedOut left right on small p q =
+      → both f ws x left right ≡ andThen (both g ws x left right) K
+  both-alike f g K (inWord w) left right on small p q =
+      then-alike Small left (λ a. f a (getD ws w 0)) (λ a. g a (getD ws w 0)) K p (λ a h. on a (getD ws w 0) h (words w))
+  both-alike f g K (itself n) left right on small p q =
+      then-alike Small left (λ a. f a n) (λ a. g a n) K p (λ a h. on a n h small)
+  both-alike f g K workedOut left right on small p q =
       then-alike
       Small
       left
       (λ a. andThen (behind 1 right) (λ b. behind 2 (f a b)))
       (λ a. andThen (behind 1 right) (λ b. behind 2 (g a b)))
       K
-      L
       p
       (λ a h. then-alike
       Small
@@ -206,27 +215,25 @@ module _ (ws : List ℕ) (words : Words ws) where
       (λ b. behind 2 (f a b))
       (λ b. behind 2 (g a b))
       K
-      L
       (each-behind Small 1 right q)
-      (λ b i. then-behind 2 (f a b) K ∙ ap (behind 2) (on a b h i) ∙ sym (then-behind 2 (g a b) L)))
+      (λ b i. ap (behind 2) (on a b h i) ∙ sym (then-behind 2 (g a b) K)))
 
   -- a comparison is CMP, then a test against zero
   pub compared :
-      {D : Type 0} (v : ℕ) (r : Relation) (a b : Expression) (K : Bool → Counted D)
+      (v : ℕ) (r : Relation) (a b : Expression)
       → Expressed v a
       → Expressed v b
-      → andThen (holds ws r a b) K
-      ≡ andThen (both (λ x y. gives (comparison x y) 1) ws (operand b) (worth ws a) (worth ws b)) (λ z. behind 1 (K (relatedToZero r z)))
-  compared v r a b K p q =
+      → holds ws r a b
+      ≡ andThen (both (λ x y. gives (comparison x y) 1) ws (operand b) (worth ws a) (worth ws b)) (λ z. gives (relatedToZero r z) 1)
+  compared v r a b p q =
       both-alike
       (λ x y. gives (related r x y) 2)
       (λ x y. gives (comparison x y) 1)
-      K
-      (λ z. behind 1 (K (relatedToZero r z)))
+      (λ z. gives (relatedToZero r z) 1)
       (operand b)
       (worth ws a)
       (worth ws b)
-      (λ x y h i. rw (relation-agrees r x y h i) (behind-behind 1 1 (K (related r x y))))
+      (λ x y h i. rw (relation-agrees r x y h i) refl)
       (small-operand v b q)
       (small-worth ws words v a p)
       (small-worth ws words v b q)

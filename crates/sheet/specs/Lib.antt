@@ -3,11 +3,13 @@ pub mod Orders
 pub mod Formed
 pub mod Worth
 pub mod Condition
+pub mod Merge
 pub mod Translation
 pub mod Beginnings
 pub mod Temporaries
 pub mod Within
 pub mod Fields
+pub mod Memory
 pub mod Meaning
 pub mod Following
 pub mod Guess

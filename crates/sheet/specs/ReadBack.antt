@@ -1,7 +1,7 @@
 -- Reading a sheet back from orders: a guess, which is then checked. What it gives is settled by the theorems of
 -- proofs/ReadBack.antt: a good object's orders give the one sheet within the limits that translates to them, if there is one.
 use Prim.Native.Nat.{ℕ, _+_}
-use mathlib.Core.Bool.{Bool, true, false}
+use mathlib.Core.Bool.{Bool, true, false, not}
 use mathlib.Core.List.{List, [], _∷_}
 use lib.Dec.{ltb, leb, eqb}
 use Rattle.base.specs.Choice.{pick}
@@ -11,12 +11,13 @@ use Rattle.order.specs.Order.{operand as orderOperand}
 use Rattle.order.specs.Memory.{number}
 use Rattle.order.specs.Object.{Reading, object, refused}
 use Rattle.sheet.specs.Sheet.{Expression, word, constant, negated, inverted, binary, Simple, set, send, goto}
-use Rattle.sheet.specs.Sheet.{Condition, compares, Part, end, plain, when, either, count, Sheet, sheet}
+use Rattle.sheet.specs.Sheet.{Condition, compares, joins, Part, end, plain, when, either, count, Sheet, sheet}
+use Rattle.sheet.specs.Condition.{comparisons, isRun, mostComparisons}
 use Rattle.sheet.specs.Translation.{temporariesOf, translation}
 use Rattle.sheet.specs.Within.{mostLevels, depth}
 use Rattle.sheet.specs.Guess.{guessed}
 
--- ---- whether instructions are formed as those of a sheet, a test for each case of specs/Formed.antt and specs/Within.antt
+-- ---- whether instructions are formed as those of a sheet, a test for each case of specs/Formed, Condition and Within
 
 abbrev pub isVariable : ℕ → ℕ → Bool
 isVariable v w = pick (ltb w 2) false (ltb w (v + 2))
@@ -36,8 +37,16 @@ isSimpleFormed v n (set w e) = also (isVariable v w) (isExpressed v e)
 isSimpleFormed v n (send e) = isExpressed v e
 isSimpleFormed v n (goto s) = also (leb 1 s) (leb s (n + 1))
 
+unfoldable pub allExpressed : ℕ → Condition → Bool
+allExpressed v (compares r a b) = also (isExpressed v a) (isExpressed v b)
+allExpressed v (joins w a b) = also (allExpressed v a) (allExpressed v b)
+
+unfoldable pub isMerged : Condition → Bool
+isMerged (compares r a b) = true
+isMerged (joins w a b) = also (not (isRun w a)) (also (isMerged a) (isMerged b))
+
 abbrev pub isConditionFormed : ℕ → Condition → Bool
-isConditionFormed v (compares r a b) = also (isExpressed v a) (isExpressed v b)
+isConditionFormed v c = also (allExpressed v c) (also (isMerged c) (leb (comparisons c) mostComparisons))
 
 unfoldable pub isPartFormed : ℕ → ℕ → Part → Bool
 isPartFormed v n end = true

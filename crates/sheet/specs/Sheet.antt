@@ -1,8 +1,9 @@
 -- Sheets, document 01 ("Sheet text"): a program without the spelling of its source. "Sheet" is document 01's word for it.
--- Comments in quotes are the words of document 01 and of 02, L1.
+-- Comments in quotes are the words of document 01 and of 02, L1 and L5.
 use Prim.Native.Nat.{ℕ, suc, _+_}
 use Rattle.word.specs.declared.Relation.{Relation}
 use Rattle.sheet.specs.declared.Operator.{Operator}
+use Rattle.sheet.specs.declared.Joining.{Joining}
 
 -- "`Wn`, `Kn`, `NEG`, `NOT`, or the source's operator"
 pub data Expression : Type 0 where
@@ -18,9 +19,11 @@ pub data Simple : Type 0 where
   send : Expression → Simple
   goto : ℕ → Simple
 
--- what an IF asks
+-- what an IF asks: a comparison; or a run of members joined by one word, as its first member and the rest, which is the second
+-- member where there are two, and else the run of the others
 pub data Condition : Type 0 where
   compares : Relation → Expression → Expression → Condition
+  joins : Joining → Condition → Condition → Condition
 
 -- a list of instructions: the whole program, or a part of an IF. It is at its end; or it has one of these instructions and what
 -- follows; or an IF with its part, or with both its parts, and what follows

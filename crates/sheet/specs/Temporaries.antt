@@ -3,7 +3,7 @@
 use Prim.Native.Nat.{ℕ, suc, _+_, _-_, max}
 use mathlib.Core.List.{List, [], _∷_}
 use Rattle.order.specs.declared.Order.{Order}
-use Rattle.order.specs.declared.Order.the-variants.{Word, Number, Store, Neg, Not, Jump, Skip, Branch, Send, Stop}
+use Rattle.order.specs.declared.Order.the-variants.{Word, Number, Store, Neg, Not, Jump, Skip, Branch, Cond, Send, Stop}
 
 -- which temporary word w is, counted from 1; 0 where it is none: "Variables follow from 2 .., V of them; then T temporaries"
 abbrev pub temporaryOf : ℕ → ℕ → ℕ
@@ -19,6 +19,7 @@ storedTo v Not = 0
 storedTo v (Jump a) = 0
 storedTo v (Skip a) = 0
 storedTo v (Branch r a) = 0
+storedTo v (Cond n) = 0
 storedTo v Send = 0
 storedTo v Stop = 0
 

@@ -16,8 +16,14 @@ pub enum Operator {
     Unlike,
 }
 
-// A field: a node of an expression, a relation, or a word of an instruction with the number behind it. ELSE, START, FINISH
-// and the fields that begin an instruction begin a line of the sheet's text.
+// The words that join the members of a run, in the source %AND and %OR.
+pub enum Joining {
+    And,
+    Or,
+}
+
+// A field: a node of an expression, a relation, or a word of an instruction or of a run with the number behind it. ELSE, START,
+// FINISH and the fields that begin an instruction begin a line of the sheet's text.
 pub enum Field {
     Else,
     Start,
@@ -32,4 +38,5 @@ pub enum Field {
     Constant(u32),
     Set(u32),
     Goto(u32),
+    Run(Joining, u32),
 }

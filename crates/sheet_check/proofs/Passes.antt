@@ -10,7 +10,7 @@ use lib.Seq.{drop-cons}
 use Rattle.base.specs.Choice.{pick}
 use Rattle.sheet.specs.declared.Field.{Field}
 use Rattle.sheet.specs.Sheet.{Part, count}
-use Rattle.sheet.specs.Fields.{partFields}
+use Rattle.sheet.specs.Memory.{partFields}
 use Rattle.sheet.specs.Within.{PartFormed}
 use Rattle.sheet_field.specs.Memory.{fieldIn, fieldsAt, mostFields}
 use Rattle.order.specs.Limits.{mostVariables}

@@ -2,7 +2,6 @@
 use Prim.Native.Nat.{ℕ, zero, suc, _+_, _*_, _-_, _/_, _%_, _≤_, _<_}
 use mathlib.Core.Path.{_≡_, refl, sym, ap, subst, _∙_}
 use mathlib.Core.Bool.{Bool, true, false}
-use mathlib.Core.List.{List, [], _∷_}
 use native.Mathlib.Omega.{arith}
 use native.Mathlib.Nat.{add-zero, add-suc}
 use native.Mathlib.Numerals.{add-one}
@@ -12,15 +11,17 @@ use Rattle.base.specs.Choice.{pick}
 use Rattle.base.proofs.Cases.{by-less}
 use Rattle.text.specs.Pieces.{greatestNumber}
 use Rattle.sheet.specs.declared.Field.{Field}
-use Rattle.sheet.specs.declared.Field.the-variants.{Else, Start, Finish, If, Send, Neg, Not, Binary, Compare, Word, Constant, Set, Goto}
+use Rattle.sheet.specs.declared.Field.the-variants.{Else, Start, Finish, If, Send, Neg, Not, Binary, Compare, Word, Constant, Set, Goto, Run}
+use Rattle.sheet.specs.declared.Joining.{Joining}
 use Rattle.sheet.specs.Within.{mostLevels}
 use Rattle.sheet.specs.ReadBack.{isVariable}
 use Rattle.sheet_check.specs.declared.Next.{Next}
-use Rattle.sheet_check.specs.declared.Next.the-variants.{Instruction, Start as StartNext, Relation}
+use Rattle.sheet_check.specs.declared.Next.the-variants.{Instruction, Start as StartNext, Condition, NoAnd, NoOr}
 use Rattle.sheet_check.specs.declared.State.{State}
 use Rattle.sheet_check.specs.declared.Step.{Step}
 use Rattle.sheet_check.specs.declared.Step.the-variants.{To, Missing}
-use Rattle.sheet_check.specs.Internal.{withValues, valueStep, leadsTo, instructed, elseStep, finishStep, instructionStep, relationStep, opened, startStep, nextStep, stepOf, start}
+use Rattle.sheet_check.specs.Internal.{withValues, valueStep, leadsTo, among, elseStep, finishStep, instructionStep}
+use Rattle.sheet_check.specs.Internal.{compareStep, mayJoin, runStep, conditionStep, opened, startStep, nextStep, stepOf, start}
 
 -- ---- powers of two
 
@@ -49,6 +50,7 @@ power-few k h =
 
 pub record Small (i : ℕ) (s : State) : Type 0 where
   pub values : s .values ≤ i + 2
+  pub conditions : s .conditions ≤ i
   pub groups : s .groups ≤ mostLevels
   pub seconds : s .seconds + 1 ≤ power (s .groups)
 
@@ -61,7 +63,7 @@ StepSmall i Missing = Unit {0}
 
 pub start-small : Small 0 start
 unfolding power
-start-small = record { values = omega arith; groups = omega arith; seconds = omega arith }
+start-small = record { values = omega arith; conditions = omega arith; groups = omega arith; seconds = omega arith }
 
 small-when : (i : ℕ) (t : Bool) (x : Step) → (t ≡ true → StepSmall i x) → StepSmall i (pick t x Missing)
 unfolding pick
@@ -103,13 +105,19 @@ small-unless i false x h = h refl
 
 module _ (i : ℕ) (s : State) (p : Small i s) where
   same : (k : ℕ) → k ≤ i + 1 + 2 → Small (i + 1) (withValues s k)
-  same k h = record { values = h; groups = p .groups; seconds = p .seconds }
+  same k h = record { values = h; conditions = omega (arith, p .conditions); groups = p .groups; seconds = p .seconds }
 
-  follows : (k : ℕ) (next : Next) → k ≤ 2 → Small (i + 1) (instructed s k next)
-  follows k next h = record { values = omega arith; groups = p .groups; seconds = p .seconds }
+  follows : (k m r : ℕ) (next : Next) (b : Bool) → k ≤ 2 → m ≤ i + 1
+      → Small (i + 1) (record { values = k; groups = s .groups; seconds = s .seconds; conditions = m; room = r; next = next; some = b })
+  follows k m r next b h few = record { values = omega arith; conditions = few; groups = p .groups; seconds = p .seconds }
 
   further : Small (i + 1) s
-  further = record { values = omega (arith, p .values); groups = p .groups; seconds = p .seconds }
+  further = record {
+    values = omega (arith, p .values);
+    conditions = omega (arith, p .conditions);
+    groups = p .groups;
+    seconds = p .seconds;
+  }
 
   value-small : (v : ℕ) (f : Field) → 1 ≤ s .values → StepSmall (i + 1) (valueStep v s f)
   value-small v Else h = tt
@@ -125,9 +133,15 @@ module _ (i : ℕ) (s : State) (p : Small i s) where
   value-small v (Constant n) h = small-if (i + 1) (leb n greatestNumber) (To (withValues s (s .values - 1))) (same (s .values - 1) (omega (arith, p .values)))
   value-small v (Set w) h = tt
   value-small v (Goto n) h = tt
+  value-small v (Run w n) h = tt
 
-  opens : s .groups < mostLevels → Small (i + 1) (record { values = 0; next = Instruction; groups = s .groups + 1; seconds = 2 * s .seconds; some = false })
-  opens l = record { values = omega arith; groups = omega arith; seconds = twice (s .groups) (s .seconds) (p .seconds) }
+  opens : s .groups < mostLevels → Small (i + 1) (among 0 (s .groups + 1) (2 * s .seconds) false)
+  opens l = record {
+    values = omega arith;
+    conditions = omega arith;
+    groups = omega arith;
+    seconds = twice (s .groups) (s .seconds) (p .seconds);
+  }
 
   open-small : StepSmall (i + 1) (opened s)
   unfolding opened
@@ -141,6 +155,7 @@ module _ (i : ℕ) (s : State) (p : Small i s) where
       (λ even. small-when (i + 1) (s .some) _
       (λ e. record {
         values = omega arith;
+        conditions = omega arith;
         groups = p .groups;
         seconds = evenly (s .groups) (s .seconds) (eqb-false (s .groups) 0 some) (eqb-false (s .seconds % 2) 1 even) (p .seconds);
       })))
@@ -152,6 +167,7 @@ module _ (i : ℕ) (s : State) (p : Small i s) where
       (λ some. small-when (i + 1) (s .some) _
       (λ e. record {
         values = omega arith;
+        conditions = omega arith;
         groups = omega (arith, p .groups);
         seconds = halved (s .groups) (s .seconds) (eqb-false (s .groups) 0 some) (p .seconds);
       }))
@@ -160,31 +176,47 @@ module _ (i : ℕ) (s : State) (p : Small i s) where
   instruction-small v n Else = else-small
   instruction-small v n Start = tt
   instruction-small v n Finish = finish-small
-  instruction-small v n If = follows 0 Relation (omega arith)
-  instruction-small v n Send = follows 1 Instruction (omega arith)
+  instruction-small v n If = follows 0 0 _ Condition true (omega arith) (omega arith)
+  instruction-small v n Send = follows 1 0 0 Instruction true (omega arith) (omega arith)
   instruction-small v n Neg = tt
   instruction-small v n Not = tt
   instruction-small v n (Binary o) = tt
   instruction-small v n (Compare r) = tt
   instruction-small v n (Word w) = tt
   instruction-small v n (Constant k) = tt
-  instruction-small v n (Set w) = small-when (i + 1) (isVariable v w) _ (λ e. follows 1 Instruction (omega arith))
-  instruction-small v n (Goto k) = small-when (i + 1) (leadsTo n k) _ (λ e. follows 0 Instruction (omega arith))
+  instruction-small v n (Set w) = small-when (i + 1) (isVariable v w) _ (λ e. follows 1 0 0 Instruction true (omega arith) (omega arith))
+  instruction-small v n (Goto k) = small-when (i + 1) (leadsTo n k) _ (λ e. follows 0 0 0 Instruction true (omega arith) (omega arith))
+  instruction-small v n (Run w k) = tt
 
-  relation-small : (f : Field) → StepSmall (i + 1) (relationStep s f)
-  relation-small Else = tt
-  relation-small Start = tt
-  relation-small Finish = tt
-  relation-small If = tt
-  relation-small Send = tt
-  relation-small Neg = tt
-  relation-small Not = tt
-  relation-small (Binary o) = tt
-  relation-small (Compare r) = follows 2 StartNext (omega arith)
-  relation-small (Word w) = tt
-  relation-small (Constant k) = tt
-  relation-small (Set w) = tt
-  relation-small (Goto k) = tt
+  compare-small : StepSmall (i + 1) (compareStep s)
+  unfolding compareStep
+  compare-small =
+      small-unless (i + 1) (eqb (s .room) 0) _
+      (λ some. small-either (i + 1) (eqb (s .conditions) 0) _ _
+      (λ e. follows 2 0 _ StartNext (s .some) (omega arith) (omega arith))
+      (λ e. follows 2 _ _ Condition (s .some) (omega arith) (omega (arith, p .conditions))))
+
+  run-small : (w : Joining) (n : ℕ) → StepSmall (i + 1) (runStep s w n)
+  unfolding runStep
+  run-small w n =
+      small-when (i + 1) (eqb n 0) _
+      (λ none. small-when (i + 1) (mayJoin (s .next) w) _ (λ e. follows 0 _ _ _ (s .some) (omega arith) (omega (arith, p .conditions))))
+
+  condition-small : (f : Field) → StepSmall (i + 1) (conditionStep s f)
+  condition-small Else = tt
+  condition-small Start = tt
+  condition-small Finish = tt
+  condition-small If = tt
+  condition-small Send = tt
+  condition-small Neg = tt
+  condition-small Not = tt
+  condition-small (Binary o) = tt
+  condition-small (Compare r) = compare-small
+  condition-small (Word w) = tt
+  condition-small (Constant k) = tt
+  condition-small (Set w) = tt
+  condition-small (Goto k) = tt
+  condition-small (Run w k) = run-small w k
 
   begin-small : (f : Field) → StepSmall (i + 1) (startStep s f)
   begin-small Else = tt
@@ -200,11 +232,14 @@ module _ (i : ℕ) (s : State) (p : Small i s) where
   begin-small (Constant k) = tt
   begin-small (Set w) = tt
   begin-small (Goto k) = tt
+  begin-small (Run w k) = tt
 
   next-small : (v n : ℕ) (next : Next) (f : Field) → StepSmall (i + 1) (nextStep v n next s f)
   next-small v n Instruction f = instruction-small v n f
   next-small v n StartNext f = begin-small f
-  next-small v n Relation f = relation-small f
+  next-small v n Condition f = condition-small f
+  next-small v n NoAnd f = condition-small f
+  next-small v n NoOr f = condition-small f
 
   any-small : (v n : ℕ) (f : Field) → StepSmall (i + 1) (stepOf v n s f)
   unfolding stepOf

@@ -5,7 +5,7 @@ use mathlib.Core.List.{List}
 use lib.ListN.{length}
 use Rattle.order.specs.Limits.{mostVariables}
 use Rattle.sheet.specs.Sheet.{Part, count}
-use Rattle.sheet.specs.Fields.{partFields}
+use Rattle.sheet.specs.Memory.{partFields}
 use Rattle.sheet.specs.Within.{PartFormed, depth, mostLevels}
 use Rattle.sheet_field.specs.Memory.{fieldsAt, mostFields}
 use Rattle.sheet_check.specs.declared.Checked.{Checked}

@@ -1,6 +1,8 @@
 // Whether fields are those of a sheet: one pass, field by field. The limits of variables, temporaries and orders are not looked at here.
 use order::MOST_VARIABLES;
 use sheet::Field;
+use sheet::Joining;
+use sheet_field::MOST_COMPARISONS;
 use sheet_field::MOST_FIELDS;
 use sheet_field::MOST_LEVELS;
 use sheet_field::field_in;
@@ -11,27 +13,34 @@ ghost use Rattle.base.specs.Choice.{pick};
 ghost use Rattle.sheet.specs.ReadBack.{isVariable};
 ghost use Rattle.sheet_field.specs.Memory.{fieldsAt, mostFields};
 ghost use Rattle.order.specs.Limits.{mostVariables};
-ghost use Rattle.sheet_check.specs.Internal.{begins, begun, withValues, valueStep, leadsTo, instructed as instructedOf, elseStep, finishStep};
-ghost use Rattle.sheet_check.specs.Internal.{instructionStep, relationStep, opened as openedOf, startStep, stepOf, atInstruction, isFinal, start, accepts};
+ghost use Rattle.sheet_check.specs.Internal.{begins, begun, withValues, valueStep, leadsTo, among as amongOf, instructed as instructedOf, elseStep, finishStep};
+ghost use Rattle.sheet_check.specs.Internal.{instructionStep, asked as askedOf, compared as comparedOf, compareStep, mayJoin, firstOf, runStep, conditionStep};
+ghost use Rattle.sheet_check.specs.Internal.{opened as openedOf, startStep, stepOf, atInstruction, isFinal, start, accepts};
 ghost use Rattle.sheet_check.specs.Answers.{Checks};
 
 // `greatestNumber` of text/specs/Pieces.antt.
 const GREATEST_NUMBER: u32 = text::GREATEST_NUMBER as u32;
 
-// What must come next, where no expression is left to come: an instruction or the end of a part, START, or a relation.
+// What must come next, where no expression is left to come: an instruction or the end of a part; START; a condition; or one that is
+// no run of AND, or of OR.
 pub enum Next {
     Instruction,
     Start,
-    Relation,
+    Condition,
+    NoAnd,
+    NoOr,
 }
 
 // How far the fields were read: how many expressions must come before what is next; how many groups are open; which of them are second
-// parts, as the digits of a binary number, the innermost last; what is next; and whether the innermost group has an instruction. The
-// two single bytes stand last, so that there is no gap to be copied with the rest.
+// parts, as the digits of a binary number, the innermost last; how many conditions must come beside the one that is next; how many
+// comparisons the IF may still have; what is next; and whether the innermost group has an instruction. The two single bytes stand
+// last, so that there is no gap to be copied with the rest.
 pub struct State {
     pub values: u32,
     pub groups: u32,
     pub seconds: u32,
+    pub conditions: u32,
+    pub room: u32,
     pub next: Next,
     pub some: bool,
 }
@@ -50,34 +59,17 @@ pub enum Checked {
 
 // ---- what a field is
 
-fn begins_one(f: Field) -> bool
-    ensures { λ r. ⌜ r ≡ begins f ⌝ }
-{
-    match f {
-        Field::Else => false,
-        Field::Start => false,
-        Field::Finish => false,
-        Field::If => true,
-        Field::Send => true,
-        Field::Neg => false,
-        Field::Not => false,
-        Field::Binary(_) => false,
-        Field::Compare(_) => false,
-        Field::Word(_) => false,
-        Field::Constant(_) => false,
-        Field::Set(_) => true,
-        Field::Goto(_) => true,
-    }
-}
-
 // How many instructions begin with a field: one or none.
 fn counts(f: Field) -> u32
     ensures { λ r. ⌜ r ≡ pick (begins f) 1 0 ⌝ }
 {
-    if begins_one(f) {
-        return 1;
+    match f {
+        Field::If => 1,
+        Field::Send => 1,
+        Field::Set(_) => 1,
+        Field::Goto(_) => 1,
+        _ => 0,
     }
-    0
 }
 
 // How many instructions begin among fields.
@@ -123,22 +115,48 @@ fn with_values(s: State, k: u32) -> State
     let next = s.next;
     State {
         values: k,
-        next,
         groups: s.groups,
         seconds: s.seconds,
+        conditions: s.conditions,
+        room: s.room,
+        next,
         some: s.some,
     }
 }
 
-// An instruction that k expressions follow, and then what is next.
-fn instructed(s: State, k: u32, next: Next) -> State
-    ensures { λ r. ⌜ r ≡ instructedOf s k next ⌝ }
+// A place among instructions, k expressions before it.
+fn among(k: u32, groups: u32, seconds: u32, some: bool) -> State
+    ensures { λ r. ⌜ r ≡ amongOf k groups seconds some ⌝ }
 {
     State {
         values: k,
-        next,
+        groups,
+        seconds,
+        conditions: 0,
+        room: 0,
+        next: Next::Instruction,
+        some,
+    }
+}
+
+// An instruction that is no IF and that k expressions follow.
+fn instructed(s: State, k: u32) -> State
+    ensures { λ r. ⌜ r ≡ instructedOf s k ⌝ }
+{
+    among(k, s.groups, s.seconds, true)
+}
+
+// An IF.
+fn asked(s: State) -> State
+    ensures { λ r. ⌜ r ≡ askedOf s ⌝ }
+{
+    State {
+        values: 0,
         groups: s.groups,
         seconds: s.seconds,
+        conditions: 0,
+        room: MOST_COMPARISONS,
+        next: Next::Condition,
         some: true,
     }
 }
@@ -150,15 +168,9 @@ fn value_step(s: State, f: Field, v: u32) -> Step
 {
     let k = s.values;
     match f {
-        Field::Else => Step::Missing,
-        Field::Start => Step::Missing,
-        Field::Finish => Step::Missing,
-        Field::If => Step::Missing,
-        Field::Send => Step::Missing,
         Field::Neg => Step::To(s),
         Field::Not => Step::To(s),
         Field::Binary(_) => Step::To(with_values(s, k + 1)),
-        Field::Compare(_) => Step::Missing,
         Field::Word(w) => {
             if is_variable(w, v) {
                 return Step::To(with_values(s, k - 1));
@@ -171,8 +183,7 @@ fn value_step(s: State, f: Field, v: u32) -> Step
             }
             Step::Missing
         }
-        Field::Set(_) => Step::Missing,
-        Field::Goto(_) => Step::Missing,
+        _ => Step::Missing,
     }
 }
 
@@ -188,13 +199,7 @@ fn else_step(s: State) -> Step
         return Step::Missing;
     }
     if s.some {
-        return Step::To(State {
-            values: 0,
-            next: Next::Instruction,
-            groups: s.groups,
-            seconds: s.seconds + 1,
-            some: false,
-        });
+        return Step::To(among(0, s.groups, s.seconds + 1, false));
     }
     Step::Missing
 }
@@ -207,13 +212,7 @@ fn finish_step(s: State) -> Step
         return Step::Missing;
     }
     if s.some {
-        return Step::To(State {
-            values: 0,
-            next: Next::Instruction,
-            groups: s.groups - 1,
-            seconds: s.seconds / 2,
-            some: true,
-        });
+        return Step::To(among(0, s.groups - 1, s.seconds / 2, true));
     }
     Step::Missing
 }
@@ -225,49 +224,115 @@ fn instruction_step(s: State, f: Field, v: u32, n: u32) -> Step
 {
     match f {
         Field::Else => else_step(s),
-        Field::Start => Step::Missing,
         Field::Finish => finish_step(s),
-        Field::If => Step::To(instructed(s, 0, Next::Relation)),
-        Field::Send => Step::To(instructed(s, 1, Next::Instruction)),
-        Field::Neg => Step::Missing,
-        Field::Not => Step::Missing,
-        Field::Binary(_) => Step::Missing,
-        Field::Compare(_) => Step::Missing,
-        Field::Word(_) => Step::Missing,
-        Field::Constant(_) => Step::Missing,
+        Field::If => Step::To(asked(s)),
+        Field::Send => Step::To(instructed(s, 1)),
         Field::Set(w) => {
             if is_variable(w, v) {
-                return Step::To(instructed(s, 1, Next::Instruction));
+                return Step::To(instructed(s, 1));
             }
             Step::Missing
         }
         Field::Goto(k) => {
             if leads_to(n, k) {
-                return Step::To(instructed(s, 0, Next::Instruction));
+                return Step::To(instructed(s, 0));
             }
             Step::Missing
         }
+        _ => Step::Missing,
     }
 }
 
-// A field where a relation must come.
-fn relation_step(s: State, f: Field) -> Step
-    ensures { λ r. ⌜ r ≡ relationStep s f ⌝ }
+// A comparison, which two expressions follow, then what is next, and m conditions beside that.
+fn compared(s: State, m: u32, next: Next) -> State
+    requires { ⌜ 1 ≤ s .room ⌝ }
+    ensures { λ r. ⌜ r ≡ comparedOf s m next ⌝ }
+{
+    State {
+        values: 2,
+        groups: s.groups,
+        seconds: s.seconds,
+        conditions: m,
+        room: s.room - 1,
+        next,
+        some: s.some,
+    }
+}
+
+// A comparison where a condition must come.
+fn compare_step(s: State) -> Step
+    ensures { λ r. ⌜ r ≡ compareStep s ⌝ }
+{
+    if s.room == 0 {
+        return Step::Missing;
+    }
+    if s.conditions == 0 {
+        return Step::To(compared(s, 0, Next::Start));
+    }
+    Step::To(compared(s, s.conditions - 1, Next::Condition))
+}
+
+// Whether a run of a word may come.
+fn may_join(next: Next, w: Joining) -> bool
+    ensures { λ r. ⌜ r ≡ mayJoin next w ⌝ }
+{
+    match next {
+        Next::Instruction => false,
+        Next::Start => false,
+        Next::Condition => true,
+        Next::NoAnd => match w {
+            Joining::And => false,
+            Joining::Or => true,
+        },
+        Next::NoOr => match w {
+            Joining::And => true,
+            Joining::Or => false,
+        },
+    }
+}
+
+// What comes behind the word of a run: its first member, which is no run of that word.
+fn first_of(w: Joining) -> Next
+    ensures { λ r. ⌜ r ≡ firstOf w ⌝ }
+{
+    match w {
+        Joining::And => Next::NoAnd,
+        Joining::Or => Next::NoOr,
+    }
+}
+
+// A run where a condition must come.
+fn run_step(s: State, w: Joining, n: u32) -> Step
+    requires { ⌜ s .conditions < 4294967295 ⌝ }
+    ensures { λ r. ⌜ r ≡ runStep s w n ⌝ }
+{
+    let next = s.next;
+    if n != 0 {
+        return Step::Missing;
+    }
+    if may_join(next, w) {
+        return Step::To(State {
+            values: 0,
+            groups: s.groups,
+            seconds: s.seconds,
+            conditions: s.conditions + 1,
+            room: s.room,
+            next: first_of(w),
+            some: s.some,
+        });
+    }
+    Step::Missing
+}
+
+// A field where a condition must come.
+fn condition_step(s: State, f: Field) -> Step
+    requires { ⌜ s .conditions < 4294967295 ⌝ }
+    ensures { λ r. ⌜ r ≡ conditionStep s f ⌝ }
 {
     match f {
-        Field::Else => Step::Missing,
-        Field::Start => Step::Missing,
-        Field::Finish => Step::Missing,
-        Field::If => Step::Missing,
-        Field::Send => Step::Missing,
-        Field::Neg => Step::Missing,
-        Field::Not => Step::Missing,
-        Field::Binary(_) => Step::Missing,
-        Field::Compare(_) => Step::To(instructed(s, 2, Next::Start)),
-        Field::Word(_) => Step::Missing,
-        Field::Constant(_) => Step::Missing,
-        Field::Set(_) => Step::Missing,
-        Field::Goto(_) => Step::Missing,
+        Field::Compare(_) => compare_step(s),
+        Field::Run(w, n) => run_step(s, w, n),
+        _ => Step::Missing,
     }
 }
 
@@ -277,13 +342,7 @@ fn opened(s: State) -> Step
     ensures { λ r. ⌜ r ≡ openedOf s ⌝ }
 {
     if s.groups < MOST_LEVELS {
-        return Step::To(State {
-            values: 0,
-            next: Next::Instruction,
-            groups: s.groups + 1,
-            seconds: 2 * s.seconds,
-            some: false,
-        });
+        return Step::To(among(0, s.groups + 1, 2 * s.seconds, false));
     }
     Step::Missing
 }
@@ -293,26 +352,15 @@ fn start_step(s: State, f: Field) -> Step
     requires { ⌜ s .seconds < 2147483648 ⌝ }
     ensures { λ r. ⌜ r ≡ startStep s f ⌝ }
 {
-    match f {
-        Field::Else => Step::Missing,
-        Field::Start => opened(s),
-        Field::Finish => Step::Missing,
-        Field::If => Step::Missing,
-        Field::Send => Step::Missing,
-        Field::Neg => Step::Missing,
-        Field::Not => Step::Missing,
-        Field::Binary(_) => Step::Missing,
-        Field::Compare(_) => Step::Missing,
-        Field::Word(_) => Step::Missing,
-        Field::Constant(_) => Step::Missing,
-        Field::Set(_) => Step::Missing,
-        Field::Goto(_) => Step::Missing,
-    }
+    let Field::Start = f else {
+        return Step::Missing;
+    };
+    opened(s)
 }
 
 // Any field.
 fn one_step(s: State, f: Field, v: u32, n: u32) -> Step
-    requires { ⌜ (s .values < 4294967295) × (s .seconds < 2147483648) × (v ≤ mostVariables) × (n ≤ mostFields) ⌝ }
+    requires { ⌜ (s .values < 4294967295) × (s .seconds < 2147483648) × (s .conditions < 4294967295) × (v ≤ mostVariables) × (n ≤ mostFields) ⌝ }
     ensures { λ r. ⌜ r ≡ stepOf v n s f ⌝ }
 {
     if s.values == 0 {
@@ -320,7 +368,7 @@ fn one_step(s: State, f: Field, v: u32, n: u32) -> Step
         return match next {
             Next::Instruction => instruction_step(s, f, v, n),
             Next::Start => start_step(s, f),
-            Next::Relation => relation_step(s, f),
+            _ => condition_step(s, f),
         };
     }
     value_step(s, f, v)
@@ -332,7 +380,9 @@ fn at_instruction(next: Next) -> bool
     match next {
         Next::Instruction => true,
         Next::Start => false,
-        Next::Relation => false,
+        Next::Condition => false,
+        Next::NoAnd => false,
+        Next::NoOr => false,
     }
 }
 
@@ -355,13 +405,7 @@ fn accepted(fields: &[u64], v: u32, n: u32) -> bool
     requires { ⌜ (length (now fields) ≤ mostFields) × (v ≤ mostVariables) × (n ≤ mostFields) ⌝ }
     ensures { λ r. ⌜ r ≡ accepts v n start (fieldsAt 0 (now (fields .entry))) ⌝ }
 {
-    let mut s = State {
-        values: 0,
-        next: Next::Instruction,
-        groups: 0,
-        seconds: 0,
-        some: false,
-    };
+    let mut s = among(0, 0, 0, false);
     let mut i = 0;
     while i < fields.len() {
         let Step::To(t) = one_step(s, field_in(fields[i]), v, n) else {

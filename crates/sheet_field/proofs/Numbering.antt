@@ -8,11 +8,12 @@ use lib.Seq.{getD-append-add}
 use Rattle.base.proofs.Lists.{getD-map-inside, last-of, among}
 use Rattle.word.specs.declared.Relation.the-variants.{AtLeast}
 use Rattle.sheet.specs.declared.Operator.the-variants.{Unlike}
-use Rattle.sheet.specs.declared.Field.the-variants.{Else, Not, Binary, Compare, Goto}
+use Rattle.sheet.specs.declared.Joining.the-variants.{Or}
+use Rattle.sheet.specs.declared.Field.the-variants.{Else, Not, Binary, Compare, Run}
 use Rattle.sheet_field.specs.Memory.{operators, relations, bareFields, numberedFields, shapes, fieldOf}
 
-pub last-numbered : (k v : ℕ) → 3 ≤ k → Goto v ≡ getD numberedFields k Goto v
-last-numbered k v h = ap (λ f. f v) (last-of (take 3 numberedFields) Goto k h)
+pub last-numbered : (k v : ℕ) → 5 ≤ k → Run Or v ≡ getD numberedFields k (Run Or) v
+last-numbered k v h = ap (λ f. f v) (last-of (take 5 numberedFields) (Run Or) k h)
 
 pub bare-again : (k v : ℕ) → k < 7 → getD bareFields k Not ≡ fieldOf k v
 unfolding shapes fieldOf
@@ -41,14 +42,14 @@ compare-field k v h =
     (among (take 17 shapes) (map (λ r v. Compare r) relations) (drop 23 shapes) k (λ v. Else) h
     ∙ getD-map-inside (λ r v. Compare r) relations k (λ v. Else) AtLeast h))
 
-numbered-field : (k v : ℕ) → k < 4 → getD numberedFields k Goto v ≡ fieldOf (23 + k) v
+numbered-field : (k v : ℕ) → k < 6 → getD numberedFields k (Run Or) v ≡ fieldOf (23 + k) v
 unfolding shapes fieldOf
 numbered-field k v h =
     ap
     (λ f. f v)
     (sym
     (getD-append-add (take 23 shapes) numberedFields k (λ v. Else)
-    ∙ getD-map-inside (λ f. f) numberedFields k (λ v. Else) Goto h))
+    ∙ getD-map-inside (λ f. f) numberedFields k (λ v. Else) (Run Or) h))
 
 -- the same with the field's own number
 own : (n k v : ℕ) → n ≤ k → fieldOf (n + (k - n)) v ≡ fieldOf k v
@@ -60,9 +61,9 @@ binary-again k v g h = binary-field (k - 7) v (omega arith) ∙ own 7 k v g
 pub compare-again : (k v : ℕ) → 17 ≤ k → k < 23 → Compare (getD relations (k - 17) AtLeast) ≡ fieldOf k v
 compare-again k v g h = compare-field (k - 17) v (omega arith) ∙ own 17 k v g
 
-pub numbered-again : (k v : ℕ) → 23 ≤ k → k < 27 → getD numberedFields (k - 23) Goto v ≡ fieldOf k v
+pub numbered-again : (k v : ℕ) → 23 ≤ k → k < 29 → getD numberedFields (k - 23) (Run Or) v ≡ fieldOf k v
 numbered-again k v g h = numbered-field (k - 23) v (omega arith) ∙ own 23 k v g
 
-pub no-field : (k v : ℕ) → 27 ≤ k → Else ≡ fieldOf k v
+pub no-field : (k v : ℕ) → 29 ≤ k → Else ≡ fieldOf k v
 unfolding shapes fieldOf
 no-field k v h = ap (λ f. f v) (sym (List·getD-eq-default shapes (λ v. Else) {n = k} h))

@@ -10,8 +10,9 @@ use Rattle.base.proofs.Cases.{by-less}
 use Rattle.base.proofs.Places.{each-length, each-parted, each-same, from-more, from-over}
 use Rattle.word.specs.declared.Relation.the-variants.{Equal, Unequal, Less, AtMost, Greater, AtLeast}
 use Rattle.sheet.specs.declared.Operator.the-variants.{Plus, Minus, Times, Over, Power, Left, Right, And, Or, Unlike}
+use Rattle.sheet.specs.declared.Joining.the-variants.{And as Both, Or as Any}
 use Rattle.sheet.specs.declared.Field.{Field}
-use Rattle.sheet.specs.declared.Field.the-variants.{Else, Start, Finish, If, Send, Neg, Not, Binary, Compare, Word, Constant, Set, Goto}
+use Rattle.sheet.specs.declared.Field.the-variants.{Else, Start, Finish, If, Send, Neg, Not, Binary, Compare, Word, Constant, Set, Goto, Run}
 use Rattle.order.proofs.Numbers.{high, low}
 use Rattle.sheet_field.specs.Memory.{kind, carried, shapes, fieldOf, fieldWord, fieldIn, fieldsAt, fieldsFrom}
 use Rattle.sheet_field.proofs.Numbering.{no-field}
@@ -29,6 +30,8 @@ field-again (Word w) = refl
 field-again (Constant n) = refl
 field-again (Set w) = refl
 field-again (Goto s) = refl
+field-again (Run Both n) = refl
+field-again (Run Any n) = refl
 field-again (Compare Equal) = refl
 field-again (Compare Unequal) = refl
 field-again (Compare Less) = refl
@@ -47,9 +50,9 @@ field-again (Binary Or) = refl
 field-again (Binary Unlike) = refl
 
 -- a number past the last field's stands for ELSE, whose number is 0
-pub kind-below : (f : Field) → kind f < 27
+pub kind-below : (f : Field) → kind f < 29
 kind-below f =
-    by-less (kind f) 27 (λ l. l)
+    by-less (kind f) 29 (λ l. l)
     (λ g. let past : kind f ≡ 0 = ap kind (sym (field-again f) ∙ sym (no-field (kind f) (carried f) g)) in absurd (omega arith))
 
 -- what is packed comes out again

@@ -7,8 +7,10 @@ use Rattle.word.specs.declared.Relation.the-variants.{Equal, Unequal, Less, AtM
 use Rattle.order.specs.Limits.{mostOrders}
 use Rattle.sheet.specs.declared.Operator.{Operator}
 use Rattle.sheet.specs.declared.Operator.the-variants.{Plus, Minus, Times, Over, Power, Left, Right, And, Or, Unlike}
+use Rattle.sheet.specs.declared.Joining.{Joining}
+use Rattle.sheet.specs.declared.Joining.the-variants.{And as Both, Or as Any}
 use Rattle.sheet.specs.declared.Field.{Field}
-use Rattle.sheet.specs.declared.Field.the-variants.{Else, Start, Finish, If, Send, Neg, Not, Binary, Compare, Word, Constant, Set, Goto}
+use Rattle.sheet.specs.declared.Field.the-variants.{Else, Start, Finish, If, Send, Neg, Not, Binary, Compare, Word, Constant, Set, Goto, Run}
 
 abbrev pub operatorNumber : Operator → ℕ
 operatorNumber Plus = 0
@@ -30,6 +32,10 @@ relationNumber AtMost = 3
 relationNumber Greater = 4
 relationNumber AtLeast = 5
 
+abbrev pub joiningNumber : Joining → ℕ
+joiningNumber Both = 0
+joiningNumber Any = 1
+
 abbrev pub kind : Field → ℕ
 kind Else = 0
 kind Start = 1
@@ -44,6 +50,7 @@ kind (Word w) = 23
 kind (Constant n) = 24
 kind (Set w) = 25
 kind (Goto s) = 26
+kind (Run w n) = 27 + joiningNumber w
 
 abbrev pub carried : Field → ℕ
 carried Else = 0
@@ -59,6 +66,7 @@ carried (Word w) = w
 carried (Constant n) = n
 carried (Set w) = w
 carried (Goto s) = s
+carried (Run w n) = n
 
 -- the fields that have these numbers
 abbrev pub operators : List Operator
@@ -72,7 +80,7 @@ abbrev pub bareFields : List Field
 bareFields = Else ∷ Start ∷ Finish ∷ If ∷ Send ∷ Neg ∷ Not ∷ []
 
 abbrev pub numberedFields : List (ℕ → Field)
-numberedFields = Word ∷ Constant ∷ Set ∷ Goto ∷ []
+numberedFields = Word ∷ Constant ∷ Set ∷ Goto ∷ Run Both ∷ Run Any ∷ []
 
 unfoldable pub shapes : List (ℕ → Field)
 shapes =

@@ -2,6 +2,7 @@
 // and `fieldIn` of specs/Memory.antt.
 use order::Operation;
 use sheet::Field;
+use sheet::Joining;
 use sheet::Operator;
 use word::Relation;
 ghost use mathlib.Core.Path.{_≡_};
@@ -10,8 +11,9 @@ ghost use lib.ListN.{getD};
 ghost use Rattle.word.specs.declared.Relation.the-variants.{AtLeast};
 ghost use Rattle.sheet.specs.Orders.{operation, opposite};
 ghost use Rattle.sheet.specs.declared.Operator.the-variants.{Unlike};
-ghost use Rattle.sheet.specs.declared.Field.the-variants.{Not, Goto};
-ghost use Rattle.sheet_field.specs.Memory.{operatorNumber, relationNumber, kind, carried, operators, relations, bareFields, numberedFields, fieldOf};
+ghost use Rattle.sheet.specs.declared.Joining.the-variants.{Or};
+ghost use Rattle.sheet.specs.declared.Field.the-variants.{Not, Run};
+ghost use Rattle.sheet_field.specs.Memory.{operatorNumber, relationNumber, joiningNumber, kind, carried, operators, relations, bareFields, numberedFields, fieldOf};
 ghost use Rattle.sheet_field.specs.Memory.{fieldWord, fieldIn};
 
 // `mostFields` of specs/Memory.antt.
@@ -19,6 +21,9 @@ pub const MOST_FIELDS: usize = 2 * order::MOST_ORDERS as usize;
 
 // `mostLevels` of sheet's specs/Within.antt.
 pub const MOST_LEVELS: u32 = 16;
+
+// `mostComparisons` of sheet's specs/Condition.antt.
+pub const MOST_COMPARISONS: u32 = 16;
 
 pub fn operator_number(o: Operator) -> u8
     ensures numbered { λ r. ⌜ r ≡ operatorNumber o ⌝ }
@@ -52,6 +57,16 @@ pub fn relation_number(s: Relation) -> u8
     }
 }
 
+pub fn joining_number(w: Joining) -> u8
+    ensures numbered { λ r. ⌜ r ≡ joiningNumber w ⌝ }
+    ensures few { λ r. ⌜ r < 2 ⌝ }
+{
+    match w {
+        Joining::And => 0,
+        Joining::Or => 1,
+    }
+}
+
 // The number of a field's kind.
 pub fn kind_of(f: Field) -> u8
     ensures { λ r. ⌜ r ≡ kind f ⌝ }
@@ -70,6 +85,7 @@ pub fn kind_of(f: Field) -> u8
         Field::Constant(_) => 24,
         Field::Set(_) => 25,
         Field::Goto(_) => 26,
+        Field::Run(w, _) => 27 + joining_number(w),
     }
 }
 
@@ -91,6 +107,7 @@ pub fn value_of(f: Field) -> u32
         Field::Constant(n) => n,
         Field::Set(w) => w,
         Field::Goto(s) => s,
+        Field::Run(_, n) => n,
     }
 }
 
@@ -141,15 +158,17 @@ fn bare_field(k: u8) -> Field
     }
 }
 
-// The field with a number from 23 to 26, which carries the number v; GOTO for any other.
+// The field with a number from 23 to 28, which carries the number v; OR for any other.
 fn numbered_field(k: u8, v: u32) -> Field
-    ensures { λ r. ⌜ r ≡ getD numberedFields k Goto v ⌝ }
+    ensures { λ r. ⌜ r ≡ getD numberedFields k (Run Or) v ⌝ }
 {
     match k {
         0 => Field::Word(v),
         1 => Field::Constant(v),
         2 => Field::Set(v),
-        _ => Field::Goto(v),
+        3 => Field::Goto(v),
+        4 => Field::Run(Joining::And, v),
+        _ => Field::Run(Joining::Or, v),
     }
 }
 
@@ -166,7 +185,7 @@ fn field_of(k: u8, v: u32) -> Field
     if k < 23 {
         return Field::Compare(relation(k - 17));
     }
-    if k < 27 {
+    if k < 29 {
         return numbered_field(k - 23, v);
     }
     Field::Else
@@ -184,7 +203,7 @@ pub fn field_in(w: u64) -> Field
     ensures { λ r. ⌜ r ≡ fieldIn w ⌝ }
 {
     let k = w / 4294967296;
-    if 27 <= k {
+    if 29 <= k {
         return Field::Else;
     }
     field_of(k as u8, (w % 4294967296) as u32)

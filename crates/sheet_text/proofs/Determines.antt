@@ -2,8 +2,9 @@
 use mathlib.Core.Path.{_≡_, sym, ap, ap₂, _∙_}
 use native.Mathlib.Omega.{arith}
 use Rattle.sheet.specs.Sheet.{Sheet, sheet, count}
-use Rattle.sheet.specs.Fields.{partFields, sheetText}
+use Rattle.sheet.specs.Fields.{sheetText}
 use Rattle.sheet.specs.Within.{Within}
+use Rattle.sheet_line.proofs.Runs.{lineFields}
 use Rattle.sheet_text.proofs.Flat.{flat-sheet}
 use Rattle.sheet_text.proofs.FieldsRead.{instructionsOf, fields-read}
 use Rattle.sheet_text.proofs.SmallNumbers.{sheet-small}
@@ -16,10 +17,10 @@ text-determines (sheet v x) (sheet w y) within within-too e =
     header-told v w (count x) (count y) _ _
     (omega (arith, within .few-variables))
     (omega (arith, within-too .few-variables))
-    (closed (partFields x))
-    (closed (partFields y))
+    (closed (lineFields x))
+    (closed (lineFields y))
     flat in
     let small = sheet-small (sheet v x) within in
     let small-too = sheet-small (sheet w y) within-too in
-    let fields = fields-told (partFields x) (partFields y) small small-too (told .1) in
+    let fields = fields-told (lineFields x) (lineFields y) small small-too (told .1) in
     ap₂ sheet (told .0) (sym (fields-read x) ∙ ap instructionsOf fields ∙ fields-read y)

@@ -18,7 +18,8 @@ use Rattle.text.proofs.Decimal.{numeral-decimal}
 use Rattle.sheet.specs.declared.Operator.{Operator}
 use Rattle.sheet.specs.declared.Operator.the-variants.{Plus, Minus, Times, Over, Power, Left, Right, And, Or, Unlike}
 use Rattle.sheet.specs.declared.Field.{Field}
-use Rattle.sheet.specs.declared.Field.the-variants.{Else, Start, Finish, If, Send, Neg, Not, Binary, Compare, Word, Constant, Set, Goto}
+use Rattle.sheet.specs.declared.Field.the-variants.{Else, Start, Finish, If, Send, Neg, Not, Binary, Compare, Word, Constant, Set, Goto, Run}
+use Rattle.sheet.specs.declared.Joining.the-variants.{And as Both, Or as Any}
 use Rattle.sheet.specs.Fields.{fieldText}
 use Rattle.sheet_field.specs.Memory.{carried}
 
@@ -105,7 +106,10 @@ bare =
 pub fieldAt : List ℕ → Front Field
 fieldAt l =
     numbered (bytes "W") Word l
-    (numbered (bytes "K") Constant l (numbered (bytes "SET\t") Set l (numbered (bytes "GOTO\t") Goto l (amongBare bare l))))
+    (numbered (bytes "K") Constant l
+    (numbered (bytes "SET\t") Set l
+    (numbered (bytes "GOTO\t") Goto l
+    (numbered (bytes "AND\t") (Run Both) l (numbered (bytes "OR\t") (Run Any) l (amongBare bare l))))))
 
 -- the fields whose texts are fixed
 abbrev Told : Field → List ℕ → Type 0
@@ -152,6 +156,8 @@ field-read (Word w) l c small = rw (number-read w l c small) refl
 field-read (Constant n) l c small = rw (number-read n l c small) refl
 field-read (Set w) l c small = rw (number-read w l c small) refl
 field-read (Goto s) l c small = rw (number-read s l c small) refl
+field-read (Run Both n) l c small = rw (number-read n l c small) refl
+field-read (Run Any n) l c small = rw (number-read n l c small) refl
 
 -- nothing is no field
 pub no-field : fieldAt [] ≡ missing

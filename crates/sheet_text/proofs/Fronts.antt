@@ -26,8 +26,8 @@ frontLength k = getD frontLengths k 0 % 16
 
 -- the rule of the table, as computed over it, v being the number that is carried
 rows-told : (v : ℕ) →
-    each (λ k. take (frontLength k) (drop (6 * k) frontTable) ++ pick (ltb k 23) [] (decimal v)) 0 27
-    ≡ each (λ k. fieldText (fieldOf k v)) 0 27
+    each (λ k. take (frontLength k) (drop (6 * k) frontTable) ++ pick (ltb k 23) [] (decimal v)) 0 29
+    ≡ each (λ k. fieldText (fieldOf k v)) 0 29
 unfolding each fieldOf shapes bytes digitsOf pick
 rows-told v = refl
 
@@ -35,20 +35,20 @@ rows-told v = refl
 abbrev front : ℕ → List ℕ
 front k = take (frontLength k) (fieldText (fieldOf k 0))
 
-texts-told : (v : ℕ) → each (λ k. front k ++ pick (ltb k 23) [] (decimal v)) 0 27 ≡ each (λ k. fieldText (fieldOf k v)) 0 27
+texts-told : (v : ℕ) → each (λ k. front k ++ pick (ltb k 23) [] (decimal v)) 0 29 ≡ each (λ k. fieldText (fieldOf k v)) 0 29
 unfolding each fieldOf shapes bytes digitsOf pick
 texts-told v = refl
 
-lengths-told : each (λ k. length (front k)) 0 27 ≡ each (λ k. frontLength k) 0 27
+lengths-told : each (λ k. length (front k)) 0 29 ≡ each (λ k. frontLength k) 0 29
 unfolding each fieldOf shapes bytes digitsOf pick
 lengths-told = refl
 
-short-lengths : each (λ k. ltb (frontLength k) 7) 0 27 ≡ each (λ k. true) 0 27
+short-lengths : each (λ k. ltb (frontLength k) 7) 0 29 ≡ each (λ k. true) 0 29
 unfolding each fieldOf shapes bytes digitsOf pick
 short-lengths = refl
 
 module _ (f : Field) (k : ℕ) (e : k ≡ kind f) where
-  pub own : k < 27
+  pub own : k < 29
   own = rw e (kind-below f)
 
   again : fieldOf k (carried f) ≡ f
@@ -64,7 +64,7 @@ module _ (f : Field) (k : ℕ) (e : k ≡ kind f) where
         (each-at
         (λ j. take (frontLength j) (drop (6 * j) frontTable) ++ pick (ltb j 23) [] (decimal (carried f)))
         (λ j. fieldText (fieldOf j (carried f)))
-        27
+        29
         (rows-told (carried f))
         k
         own)
@@ -82,9 +82,9 @@ module _ (f : Field) (k : ℕ) (e : k ≡ kind f) where
   counted : frontLength k + length (pick (ltb k 23) [] (decimal (carried f))) ≡ length (fieldText f)
   counted =
       let text =
-      each-at (λ j. front j ++ pick (ltb j 23) [] (decimal (carried f))) (λ j. fieldText (fieldOf j (carried f))) 27 (texts-told (carried f)) k own
+      each-at (λ j. front j ++ pick (ltb j 23) [] (decimal (carried f))) (λ j. fieldText (fieldOf j (carried f))) 29 (texts-told (carried f)) k own
       in
-      let count = each-at (λ j. length (front j)) (λ j. frontLength j) 27 lengths-told k own in
+      let count = each-at (λ j. length (front j)) (λ j. frontLength j) 29 lengths-told k own in
       sym
       (ap length (sym (ap fieldText again) ∙ sym text)
       ∙ length-append (front k) (pick (ltb k 23) [] (decimal (carried f)))
@@ -100,5 +100,5 @@ module _ (f : Field) (k : ℕ) (e : k ≡ kind f) where
 
   pub short-front : frontLength k ≤ 6
   short-front =
-      let short = each-at (λ j. ltb (frontLength j) 7) (λ j. true) 27 short-lengths k own in
+      let short = each-at (λ j. ltb (frontLength j) 7) (λ j. true) 29 short-lengths k own in
       omega (arith, ltb-true (frontLength k) 7 short)

@@ -1,14 +1,17 @@
-// The text of a sheet, written into a lent buffer. A sheet in memory is the array of its fields, in the order of its text.
+// The text of a sheet, written into a lent buffer. A sheet in memory is the array of its fields, in the order of its text. What its
+// lines have of them is told by sheet_line.
 use base::byte_at;
 use base::part;
 use sheet::Field;
 use sheet_field::field_in;
+use sheet_line::Shown;
+use sheet_line::shown_at;
 use text::write::decimal_length;
 use text::write::put_byte;
 use text::write::put_decimal;
 use text::write::put_fixed;
 ghost use mathlib.Core.Path.{_≡_};
-ghost use mathlib.Core.List.{_++_};
+ghost use mathlib.Core.List.{[], _++_};
 ghost use Prim.Native.Nat.{_≤_};
 ghost use lib.ListN.{length};
 ghost use Rattle.text.specs.Pieces.{decimal};
@@ -16,9 +19,10 @@ ghost use Rattle.text.specs.Buffer.{filledWith};
 ghost use Rattle.text.specs.Internal.{placed, putAll};
 ghost use Rattle.sheet.specs.Fields.{fieldText};
 ghost use Rattle.sheet_field.specs.Memory.{kind, carried, fieldIn, fieldsAt};
+ghost use Rattle.sheet_line.specs.Runs.{lined};
 ghost use Rattle.sheet_text.specs.Answers.{written, Measured, replyFor};
 ghost use Rattle.sheet_text.specs.TextOfFields.{begins, separator, headerText, fieldsText, textOfFields};
-ghost use Rattle.sheet_text.specs.Internal.{frontTable, frontLengths};
+ghost use Rattle.sheet_text.specs.Internal.{frontTable, frontLengths, shownText};
 
 // What became of a text: its length, or that the buffer is shorter than it.
 pub enum Written {
@@ -29,12 +33,12 @@ pub enum Written {
 // What the text of a field begins with, by the fields' numbers in memory: six bytes each, a shorter one with spaces behind it.
 // From 23 on the number that the field carries stands behind it. The tables are lent by `write`, since a function that names one
 // has all of it stored anew at each call.
-const FRONTS: [u8; 162] = *b"ELSE  START FINISHIF    SEND  NEG   NOT   \
+const FRONTS: [u8; 174] = *b"ELSE  START FINISHIF    SEND  NEG   NOT   \
     +     -     *     /     **    <<    >>    &     !     !!    \
-    =     #     <     <=    >     >=    W     K     SET\t  GOTO\t ";
+    =     #     <     <=    >     >=    W     K     SET\t  GOTO\t AND\t  OR\t   ";
 
 // Their lengths, as digits.
-const FRONT_LENGTHS: [u8; 27] = *b"456243311112221121112121145";
+const FRONT_LENGTHS: [u8; 29] = *b"45624331111222112111212114543";
 
 // A fixed string and the number behind it.
 fn put_numbered(buffer: &mut [u8], at: usize, string: &[u8], n: u32) -> usize
@@ -49,7 +53,7 @@ fn kind_in(w: u64) -> usize
     ensures { λ r. ⌜ r ≡ kind (fieldIn w) ⌝ }
 {
     let k = w / 4294967296;
-    if k < 27 {
+    if k < 29 {
         return k as usize;
     }
     0
@@ -63,7 +67,7 @@ fn value_in(w: u64) -> u32
     if k < 23 {
         return 0;
     }
-    if k < 27 {
+    if k < 29 {
         return (w % 4294967296) as u32;
     }
     0
@@ -104,6 +108,7 @@ fn begins_line(f: Field) -> bool
         Field::Constant(_) => false,
         Field::Set(_) => true,
         Field::Goto(_) => true,
+        Field::Run(_, _) => false,
     }
 }
 
@@ -126,17 +131,27 @@ fn put_header(buffer: &mut [u8], at: usize, v: u32, instructions: u32) -> usize
     put_decimal(buffer, j, instructions)
 }
 
+// What is written of a field, behind its separator.
+fn put_shown(buffer: &mut [u8], at: usize, what: Shown, fronts: &[u8], lengths: &[u8]) -> usize
+    requires { ⌜ (now fronts ≡ frontTable) × (now lengths ≡ frontLengths) ⌝ }
+    ensures { λ r. ⌜ placed r (now (buffer .exit)) ≡ putAll (shownText what) (placed at (now (buffer .entry))) ⌝ }
+{
+    let Shown::As(w) = what else {
+        return at;
+    };
+    let i = put_byte(buffer, at, separator_of(field_in(w)));
+    put_field(buffer, i, w, fronts, lengths)
+}
+
 // The fields, each behind its separator, and the last newline.
 fn put_fields(buffer: &mut [u8], at: usize, fields: &[u64], fronts: &[u8], lengths: &[u8]) -> usize
     requires { ⌜ (now fronts ≡ frontTable) × (now lengths ≡ frontLengths) ⌝ }
-    ensures { λ r. ⌜ placed r (now (buffer .exit)) ≡ putAll (fieldsText (fieldsAt 0 (now (fields .entry)))) (placed at (now (buffer .entry))) ⌝ }
+    ensures { λ r. ⌜ placed r (now (buffer .exit)) ≡ putAll (fieldsText (lined [] (fieldsAt 0 (now (fields .entry))))) (placed at (now (buffer .entry))) ⌝ }
 {
     let mut j = at;
     let mut i: usize = 0;
     while i < fields.len() {
-        let w = fields[i];
-        j = put_byte(buffer, j, separator_of(field_in(w)));
-        j = put_field(buffer, j, w, fronts, lengths);
+        j = put_shown(buffer, j, shown_at(fields, i), fronts, lengths);
         i += 1;
     }
     put_byte(buffer, j, 10)
@@ -156,6 +171,17 @@ fn field_length(w: u64, lengths: &[u8]) -> usize
     front + decimal_length(value_in(w))
 }
 
+// The length of what is written of a field, with its separator.
+fn shown_length(what: Shown, lengths: &[u8]) -> usize
+    requires { ⌜ now lengths ≡ frontLengths ⌝ }
+    ensures { λ r. ⌜ r ≡ length (shownText what) ⌝ }
+{
+    let Shown::As(w) = what else {
+        return 0;
+    };
+    field_length(w, lengths) + 1
+}
+
 // The length of the text that `write` writes, or that there is no room for it. What is left of the room is counted, so that no
 // sum of lengths can overflow.
 fn text_length(fields: &[u64], v: u32, instructions: u32, room: usize, lengths: &[u8]) -> Written
@@ -169,7 +195,7 @@ fn text_length(fields: &[u64], v: u32, instructions: u32, room: usize, lengths: 
     let mut left = room - header;
     let mut i: usize = 0;
     while i < fields.len() {
-        let more = field_length(fields[i], lengths) + 1;
+        let more = shown_length(shown_at(fields, i), lengths);
         if left < more {
             return Written::Short;
         }

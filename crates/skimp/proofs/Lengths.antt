@@ -5,6 +5,7 @@ use mathlib.Core.List.{List, [], _∷_, _++_}
 use native.Mathlib.Omega.{arith}
 use lib.Dec.{ltb}
 use lib.ListN.{length, length-append}
+use Rattle.base.specs.Choice.{pick}
 use Rattle.base.specs.Text.{bytes}
 use Rattle.base.proofs.Cases.{either-part}
 use Rattle.word.specs.declared.Relation.{Relation}
@@ -13,16 +14,20 @@ use Rattle.text.specs.Pieces.{digitsOf, decimal}
 use Rattle.order.specs.declared.Operation.{Operation}
 use Rattle.order.specs.declared.Operation.the-variants.{Load, Add, Sub, Mlt, Div, Exp, Shl, Shr, And, Or, Xor, Cmp}
 use Rattle.order.specs.declared.Order.{Order}
-use Rattle.order.specs.declared.Order.the-variants.{Word, Number, Store, Neg, Not, Jump, Skip, Branch, Send, Stop}
+use Rattle.order.specs.declared.Order.the-variants.{Word, Number, Store, Neg, Not, Jump, Skip, Branch, Cond, Send, Stop}
 use Rattle.order.specs.Order.{operationName, branchName, name, kind, operand}
 use Rattle.order.specs.Object.{recordText, recordsText, headerText, text}
 use Rattle.sheet.specs.declared.Operator.{Operator}
 use Rattle.sheet.specs.declared.Operator.the-variants.{Plus, Minus, Times, Over, Power, Left, Right, And as Both, Or as Any, Unlike}
+use Rattle.sheet.specs.declared.Joining.{Joining}
+use Rattle.sheet.specs.declared.Joining.the-variants.{And as AndRun, Or as OrRun}
 use Rattle.sheet.specs.declared.Field.{Field}
-use Rattle.sheet.specs.declared.Field.the-variants.{Else, Start, Finish, If, Send as FieldSend, Neg as FieldNeg, Not as FieldNot, Binary, Compare, Word as FieldWord, Constant, Set, Goto}
-use Rattle.sheet.specs.Sheet.{Simple, set, send, goto, Part, end, plain, when, either, count, Sheet, sheet, variables}
+use Rattle.sheet.specs.declared.Field.the-variants.{Else, Start, Finish, If, Send as FieldSend, Neg as FieldNeg, Not as FieldNot, Binary, Compare, Word as FieldWord, Constant, Set, Goto, Run}
+use Rattle.sheet.specs.Sheet.{Simple, set, send, goto, Condition, compares, joins, Part, end, plain, when, either, count, Sheet, sheet, variables}
 use Rattle.sheet.specs.Within.{Within}
-use Rattle.sheet.specs.Fields.{simpleFields, conditionFields, partFields, operatorText, relationText, fieldText, lineRest, line, lines, sheetText}
+use Rattle.sheet.specs.Fields.{simpleFields, memberCount, Place, member, restOf, heading, conditionLine}
+use Rattle.sheet.specs.Fields.{operatorText, relationText, joiningText, fieldText, lineRest, line, lines, sheetText}
+use Rattle.sheet.specs.Memory.{conditionFields, partFields}
 use Rattle.sheet.specs.Translation.{translation, sheetTemporaries, objectText}
 use Rattle.sheet.proofs.Lengths.{translation-length, part-few}
 use Rattle.skimp.specs.Promises.{mostObjectBytes, mostSheetBytes}
@@ -81,6 +86,7 @@ name-few Not = omega arith
 name-few (Jump a) = omega arith
 name-few (Skip a) = omega arith
 name-few (Branch r a) = branch-few r
+name-few (Cond n) = omega arith
 name-few Send = omega arith
 name-few Stop = omega arith
 
@@ -94,6 +100,7 @@ kind-few Not = omega arith
 kind-few (Jump a) = omega arith
 kind-few (Skip a) = omega arith
 kind-few (Branch r a) = omega arith
+kind-few (Cond n) = omega arith
 kind-few Send = omega arith
 kind-few Stop = omega arith
 
@@ -146,6 +153,11 @@ relation-few AtMost = omega arith
 relation-few Greater = omega arith
 relation-few AtLeast = omega arith
 
+run-few : (w : Joining) (n : ℕ) → length (fieldText (Run w n)) ≤ 15
+unfolding bytes
+run-few AndRun n = both-few (bytes "AND\t") (decimal n) 5 10 (omega arith) (decimal-few n)
+run-few OrRun n = both-few (bytes "OR\t") (decimal n) 5 10 (omega arith) (decimal-few n)
+
 field-few : (f : Field) → length (fieldText f) ≤ 15
 unfolding bytes
 field-few Else = omega arith
@@ -161,6 +173,7 @@ field-few (FieldWord w) = both-few (bytes "W") (decimal w) 5 10 (omega arith) (d
 field-few (Constant n) = both-few (bytes "K") (decimal n) 5 10 (omega arith) (decimal-few n)
 field-few (Set w) = both-few (bytes "SET\t") (decimal w) 5 10 (omega arith) (decimal-few w)
 field-few (Goto s) = both-few (bytes "GOTO\t") (decimal s) 5 10 (omega arith) (decimal-few s)
+field-few (Run w n) = run-few w n
 
 rest-few : (fs : List Field) → length (lineRest fs) ≤ 16 * length fs + 1
 unfolding lineRest
@@ -180,28 +193,54 @@ simple-few (set w e) = line-few _ _
 simple-few (send e) = line-few _ _
 simple-few (goto s) = line-few _ _
 
+-- a condition's line has no more fields than its list in memory, where each word has one
+heading-few : (p : Place) (w : Joining) (n : ℕ) → length (heading p w n) ≤ 1
+unfolding pick
+heading-few member w n = omega arith
+heading-few (restOf AndRun) AndRun n = omega arith
+heading-few (restOf AndRun) OrRun n = omega arith
+heading-few (restOf OrRun) AndRun n = omega arith
+heading-few (restOf OrRun) OrRun n = omega arith
+
+condition-few : (p : Place) (c : Condition) → length (conditionLine p c) ≤ length (conditionFields c)
+unfolding conditionLine conditionFields
+condition-few p (compares r a b) = omega arith
+condition-few p (joins w a b) =
+    let n = memberCount w (joins w a b) in
+    omega (
+      arith,
+      length-append (heading p w n) (conditionLine member a ++ conditionLine (restOf w) b),
+      length-append (conditionLine member a) (conditionLine (restOf w) b),
+      length-append (conditionFields a) (conditionFields b),
+      heading-few p w n,
+      condition-few member a,
+      condition-few (restOf w) b,
+    )
+
 lines-few : (x : Part) → length (lines x) ≤ 16 * length (partFields x)
 unfolding lines partFields
 lines-few end = omega arith
 lines-few (plain u l) =
     omega (arith, simple-few u, lines-few l, length-append (line (simpleFields u)) (lines l), length-append (simpleFields u) (partFields l))
 lines-few (when c x l) =
-    let question = line-few If (conditionFields c) in
+    let question = line-few If (conditionLine member c) in
+    let shorter = condition-few member c in
     let begin = line-few Start [] in
     let finish = line-few Finish [] in
-    let a = length-append (line (If ∷ conditionFields c)) (line (Start ∷ []) ++ (lines x ++ (line (Finish ∷ []) ++ lines l))) in
+    let a = length-append (line (If ∷ conditionLine member c)) (line (Start ∷ []) ++ (lines x ++ (line (Finish ∷ []) ++ lines l))) in
     let b = length-append (line (Start ∷ [])) (lines x ++ (line (Finish ∷ []) ++ lines l)) in
     let d = length-append (lines x) (line (Finish ∷ []) ++ lines l) in
     let e = length-append (line (Finish ∷ [])) (lines l) in
     let f = length-append (conditionFields c) (Start ∷ (partFields x ++ (Finish ∷ partFields l))) in
     let g = length-append (partFields x) (Finish ∷ partFields l) in
-    omega (arith, question, begin, finish, a, b, d, e, f, g, lines-few x, lines-few l)
+    omega (arith, question, shorter, begin, finish, a, b, d, e, f, g, lines-few x, lines-few l)
 lines-few (either c x y l) =
-    let question = line-few If (conditionFields c) in
+    let question = line-few If (conditionLine member c) in
+    let shorter = condition-few member c in
     let begin = line-few Start [] in
     let turn = line-few Else [] in
     let finish = line-few Finish [] in
-    let a = length-append (line (If ∷ conditionFields c)) (line (Start ∷ []) ++ (lines x ++ (line (Else ∷ []) ++ (lines y ++ (line (Finish ∷ []) ++ lines l))))) in
+    let a = length-append (line (If ∷ conditionLine member c)) (line (Start ∷ []) ++ (lines x ++ (line (Else ∷ []) ++ (lines y ++ (line (Finish ∷ []) ++ lines l))))) in
     let b = length-append (line (Start ∷ [])) (lines x ++ (line (Else ∷ []) ++ (lines y ++ (line (Finish ∷ []) ++ lines l)))) in
     let d = length-append (lines x) (line (Else ∷ []) ++ (lines y ++ (line (Finish ∷ []) ++ lines l))) in
     let e = length-append (line (Else ∷ [])) (lines y ++ (line (Finish ∷ []) ++ lines l)) in
@@ -210,7 +249,7 @@ lines-few (either c x y l) =
     let f = length-append (conditionFields c) (Start ∷ (partFields x ++ (Else ∷ (partFields y ++ (Finish ∷ partFields l))))) in
     let g = length-append (partFields x) (Else ∷ (partFields y ++ (Finish ∷ partFields l))) in
     let j = length-append (partFields y) (Finish ∷ partFields l) in
-    omega (arith, question, begin, turn, finish, a, b, d, e, h, i, f, g, j, lines-few x, lines-few y, lines-few l)
+    omega (arith, question, shorter, begin, turn, finish, a, b, d, e, h, i, f, g, j, lines-few x, lines-few y, lines-few l)
 
 pub sheet-few : (s : Sheet) → Within s → length (sheetText s) ≤ mostSheetBytes
 unfolding bytes

@@ -1,17 +1,23 @@
--- The instruction that tokens are: its words and constants are those of the tokens.
+-- The instruction that tokens are: its words and constants are those of the tokens, and its runs are merged.
 use Prim.Native.Nat.{ℕ, _+_, _<_, _≤_}
 use mathlib.Core.List.{List, [], _∷_, _++_}
 use Rattle.sheet.specs.Sheet.{Expression, word, constant, negated, inverted, binary, Simple, set, send, goto}
-use Rattle.sheet.specs.Sheet.{Condition, compares}
+use Rattle.sheet.specs.declared.Joining.{Joining}
+use Rattle.sheet.specs.declared.Joining.the-variants.{And, Or}
+use Rattle.sheet.specs.Sheet.{Condition, compares, joins}
+use Rattle.sheet.specs.Condition.{Merged}
+use Rattle.sheet.specs.Merge.{joinOf}
+use Rattle.sheet.proofs.Merging.{join-merged}
 use Rattle.source.specs.declared.Token.{Token}
 use Rattle.source.specs.declared.Token.the-variants.{Binary, Compare, Mark}
 use Rattle.source.specs.Limits.{greatestConstant}
+use Rattle.base.specs.Choice.{pick}
 use Rattle.source.specs.Tokens.{markThen, markElse, markStart, markClose}
-use Rattle.source.specs.Grammar.{Instruction, simple, ifThen, ifElse, ifStart}
+use Rattle.source.specs.Grammar.{markOf, Instruction, simple, ifThen, ifElse, ifStart}
 use Rattle.source.specs.Grammar.{Form, beginning, declaration, ending, labels, instruction, finish, finishElse, noForm, form}
 use Rattle.source.specs.Syntax.{named, decimal, quoted, bracketed, operand, inverse, higher, operation, minus}
 use Rattle.source.specs.Syntax.{Expressed, expression, plus, Simply, assignment, sending, jump}
-use Rattle.source.specs.Syntax.{Asked, comparison, Instructed, simply, conditional, alternative, opening}
+use Rattle.source.specs.Syntax.{Asked, comparison, enclosed, two, more, single, run, Instructed, simply, conditional, alternative, opening}
 use Rattle.source.specs.Syntax.{begin, integers, instructed, alone, finishes, goes-on, end}
 use Rattle.source.proofs.Each.{Each}
 use Rattle.source.proofs.FineTokens.{Fine}
@@ -32,12 +38,16 @@ module _ (v : ℕ) where
 
   abbrev pub ConditionBounded : Condition → Type 0
   ConditionBounded (compares r a b) = Bounded a × Bounded b
+  ConditionBounded (joins w a b) = ConditionBounded a × ConditionBounded b
+
+  abbrev pub ConditionFound : Condition → Type 0
+  ConditionFound c = ConditionBounded c × Merged c
 
   abbrev pub InstructionBounded : Instruction → Type 0
   InstructionBounded (simple u) = SimpleBounded u
-  InstructionBounded (ifThen c u) = ConditionBounded c × SimpleBounded u
-  InstructionBounded (ifElse c u w) = ConditionBounded c × SimpleBounded u × SimpleBounded w
-  InstructionBounded (ifStart c) = ConditionBounded c
+  InstructionBounded (ifThen c u) = ConditionFound c × SimpleBounded u
+  InstructionBounded (ifElse c u w) = ConditionFound c × SimpleBounded u × SimpleBounded w
+  InstructionBounded (ifStart c) = ConditionFound c
 
   abbrev pub FormBounded : Form → Type 0
   FormBounded beginning = Unit {0}
@@ -82,26 +92,57 @@ module _ (v : ℕ) where
   simple-bounded (sending {ts = ts} d) h = expression-bounded d (fine-front ts (Mark markClose ∷ []) (h .1 .1))
   simple-bounded (jump l) h = tt
 
+  join-bounded : (w : Joining) (a b : Condition) → ConditionBounded a → ConditionBounded b → ConditionBounded (joinOf w a b)
+  unfolding joinOf pick
+  join-bounded w (compares r x y) b h k = (h, k)
+  join-bounded And (joins And a c) b h k = (h .0, join-bounded And c b (h .1) k)
+  join-bounded And (joins Or a c) b h k = (h, k)
+  join-bounded Or (joins And a c) b h k = (h, k)
+  join-bounded Or (joins Or a c) b h k = (h .0, join-bounded Or c b (h .1) k)
+
   condition-bounded : {ts : List Token} {c : Condition} → Asked ts c → Tokens ts → ConditionBounded c
-  condition-bounded (comparison {xs = xs} {ys = ys} r c d) h = (
-    expression-bounded c (fine-front xs (Compare r ∷ ys) h),
-    expression-bounded d (fine-rest xs (Compare r ∷ ys) h .1),
-  )
+  condition-bounded q =
+      elim q as (λ ts c x. Tokens ts → ConditionBounded c) (λ w ts c x. Tokens ts → ConditionBounded c) (λ ts c x. Tokens ts → ConditionBounded c) [
+        | comparison {xs = xs} {ys = ys} r c d ↦ λ h.
+            (expression-bounded c (fine-front xs (Compare r ∷ ys) h), expression-bounded d (fine-rest xs (Compare r ∷ ys) h .1))
+        | enclosed {ts = ts} (c → k) ↦ λ h. k (fine-front ts (Mark markClose ∷ []) (h .1))
+        | two w {ts = ts} {us = us} {a = a} {b = b} (c → k) (d → m) ↦ λ h.
+            join-bounded w a b (k (fine-front ts (Mark (markOf w) ∷ us) h)) (m (fine-rest ts (Mark (markOf w) ∷ us) h .1))
+        | more w {ts = ts} {us = us} {a = a} {b = b} (c → k) (d → m) ↦ λ h.
+            join-bounded w a b (k (fine-front ts (Mark (markOf w) ∷ us) h)) (m (fine-rest ts (Mark (markOf w) ∷ us) h .1))
+        | single (c → k) ↦ λ h. k h
+        | run (c → k) ↦ λ h. k h
+      ]
+
+  condition-merged : {ts : List Token} {c : Condition} → Asked ts c → Merged c
+  unfolding Merged
+  condition-merged q =
+      elim q as (λ ts c x. Merged c) (λ w ts c x. Merged c) (λ ts c x. Merged c) [
+        | comparison r c d ↦ tt
+        | enclosed (c → k) ↦ k
+        | two w {a = a} {b = b} (c → k) (d → m) ↦ join-merged w a b k m
+        | more w {a = a} {b = b} (c → k) (d → m) ↦ join-merged w a b k m
+        | single (c → k) ↦ k
+        | run (c → k) ↦ k
+      ]
+
+  condition-found : {ts : List Token} {c : Condition} → Asked ts c → Tokens ts → ConditionFound c
+  condition-found q h = (condition-bounded q h, condition-merged q)
 
   instruction-bounded : {ts : List Token} {i : Instruction} → Instructed ts i → Tokens ts → InstructionBounded i
   instruction-bounded (simply s) h = simple-bounded s h
   instruction-bounded (conditional {xs = xs} {us = us} q s) h = (
-    condition-bounded q (fine-front xs (Mark markThen ∷ us) (h .1)),
+    condition-found q (fine-front xs (Mark markThen ∷ us) (h .1)),
     simple-bounded s (fine-rest xs (Mark markThen ∷ us) (h .1) .1),
   )
   instruction-bounded (alternative {xs = xs} {us = us} {ws = ws} q s t) h =
       let before-else = fine-front (xs ++ Mark markThen ∷ us) (Mark markElse ∷ ws) (h .1) in
       let behind-else = fine-rest (xs ++ Mark markThen ∷ us) (Mark markElse ∷ ws) (h .1) in (
-        condition-bounded q (fine-front xs (Mark markThen ∷ us) before-else),
+        condition-found q (fine-front xs (Mark markThen ∷ us) before-else),
         simple-bounded s (fine-rest xs (Mark markThen ∷ us) before-else .1),
         simple-bounded t (behind-else .1),
       )
-  instruction-bounded (opening {xs = xs} q) h = condition-bounded q (fine-front xs (Mark markThen ∷ Mark markStart ∷ []) (h .1))
+  instruction-bounded (opening {xs = xs} q) h = condition-found q (fine-front xs (Mark markThen ∷ Mark markStart ∷ []) (h .1))
 
   found-bounded : {ts : List Token} {f : Form} → Finds ts f → Tokens ts → FormBounded f
   found-bounded (finds begin) h = tt

@@ -12,7 +12,7 @@ use Rattle.source.specs.Syntax.{expression as level-one}
 use Rattle.source.specs.Printed.{printed, Ends}
 use Rattle.source.proofs.Joining.{by-level}
 use Rattle.source.proofs.SyntaxChains.{operation-at}
-use Rattle.source.proofs.SyntaxRead.{expression-found}
+use Rattle.source.proofs.ExpressionsRead.{expression-found}
 
 -- two operands, whatever the level of the operator between them
 two-operands : {ts us : List Token} {l r : Expression} (o : Operator) → Operand ts l → Operand us r

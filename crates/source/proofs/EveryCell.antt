@@ -124,7 +124,7 @@ module _ (c : ℕ) (cells : List ℕ) where
   keyword-leaves : Leaves cells (keywordAt (c ∷ cells))
   unfolding bytes
   keyword-leaves =
-      on-front (firstOf keywords (c ∷ cells)) (wrong 5) (first-leaves keywords (tt, (tt, (tt, (tt, (tt, (tt, (tt, (tt, tt))))))))) tt
+      on-front (firstOf keywords (c ∷ cells)) (wrong 5) (first-leaves keywords (tt, (tt, (tt, (tt, (tt, (tt, (tt, (tt, (tt, (tt, tt))))))))))) tt
 
   sign-leaves : Leaves cells (signAt c cells)
   unfolding bytes

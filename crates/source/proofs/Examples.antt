@@ -9,14 +9,14 @@ use Rattle.base.specs.Front.{onFront}
 use Rattle.text.specs.Pieces.{fixed}
 use Rattle.sheet.specs.Sheet.{sheet, plain, end, send, constant, count, retargetPart}
 use Rattle.sheet.specs.Orders.{code, temporaries}
-use Rattle.sheet.specs.Condition.{asking, conditionTemporaries}
+use Rattle.sheet.specs.Condition.{comparisons, trying, asking, conditionTemporaries}
 use Rattle.sheet.specs.Translation.{size}
 use Rattle.sheet.specs.Fields.{expressionFields}
 use Rattle.sheet.proofs.Worked.{workedSheet}
 use Rattle.source.specs.Cells.{outside, turn, sourceEnd, onTurn, statementsFrom}
 use Rattle.source.specs.Tokens.{firstOf, run, pastRun, decimalValue, textAt, packed, lexeme, onOne, lexemesIn}
-use Rattle.source.specs.Grammar.{next, opens, behindFirst, joined, startOf, operandBy, linksBy, expressionIn, named, jump, simpleAt, relationAt, labelsAt, labelledForm, isNameList, form}
-use Rattle.source.specs.Program.{append, countOutside, ordersOutside, sameName, wordFrom, allKnown, namesIn, canDeclare, isSet, canSet, moved, jumpsIn, all}
+use Rattle.source.specs.Grammar.{next, opens, behindFirst, joined, startOf, operandBy, linksBy, expressionIn, named, jump, simpleAt, relationAt, opensCondition, memberBy, runBy, conditionIn, labelsAt, labelledForm, isNameList, form}
+use Rattle.source.specs.Program.{append, countOutside, ordersOutside, sameName, wordFrom, allKnown, knownCondition, namesIn, canDeclare, isSet, canSet, moved, jumpsIn, all}
 use Rattle.source.specs.Program.{firstUnset, numberOf, closed, statement}
 use Rattle.source.specs.Source.{Answer, accepted, refusal, answer, onOutcome, program, notAllowed}
 
@@ -78,5 +78,5 @@ examples =
     ∷ []
 
 pub all-answered : map (λ e. answer (e .source)) examples ≡ map (λ e. e .is) examples
-unfolding bytes pick workedSheet fixed onFront count retargetPart code asking size temporaries conditionTemporaries expressionFields outside turn sourceEnd onTurn statementsFrom firstOf run pastRun decimalValue textAt packed lexeme onOne lexemesIn next opens behindFirst joined startOf operandBy linksBy expressionIn named jump simpleAt relationAt labelsAt labelledForm isNameList form append countOutside ordersOutside sameName wordFrom allKnown namesIn canDeclare isSet canSet moved jumpsIn all firstUnset numberOf closed statement onOutcome program notAllowed
+unfolding bytes pick workedSheet fixed onFront count retargetPart code comparisons trying asking size temporaries conditionTemporaries expressionFields outside turn sourceEnd onTurn statementsFrom firstOf run pastRun decimalValue textAt packed lexeme onOne lexemesIn next opens behindFirst joined startOf operandBy linksBy expressionIn named jump simpleAt relationAt opensCondition memberBy runBy conditionIn labelsAt labelledForm isNameList form append countOutside ordersOutside sameName wordFrom allKnown knownCondition namesIn canDeclare isSet canSet moved jumpsIn all firstUnset numberOf closed statement onOutcome program notAllowed
 all-answered = refl

@@ -11,13 +11,13 @@ use Rattle.text.specs.Pieces.{fixed}
 use Rattle.sheet.specs.declared.Operator.the-variants.{Plus}
 use Rattle.sheet.specs.Sheet.{word, constant, binary, set, send, goto, Condition, compares, Part, end, plain, when, either, count, sheet, retargetPart}
 use Rattle.sheet.specs.Orders.{code, temporaries}
-use Rattle.sheet.specs.Condition.{asking, conditionTemporaries}
+use Rattle.sheet.specs.Condition.{comparisons, trying, asking, conditionTemporaries}
 use Rattle.sheet.specs.Translation.{size}
 use Rattle.sheet.specs.Within.{mostLevels}
 use Rattle.source.specs.Cells.{outside, turn, sourceEnd, onTurn, statementsFrom}
 use Rattle.source.specs.Tokens.{firstOf, run, pastRun, decimalValue, textAt, packed, lexeme, onOne, lexemesIn}
-use Rattle.source.specs.Grammar.{next, opens, behindFirst, joined, startOf, operandBy, linksBy, expressionIn, named, jump, simpleAt, relationAt, labelsAt, labelledForm, isNameList, finishing, form}
-use Rattle.source.specs.Program.{append, countOutside, ordersOutside, sameName, wordFrom, allKnown, namesIn, canDeclare, isSet, canSet, moved, jumpsIn, all}
+use Rattle.source.specs.Grammar.{next, opens, behindFirst, joined, startOf, operandBy, linksBy, expressionIn, named, jump, simpleAt, relationAt, opensCondition, memberBy, runBy, conditionIn, labelsAt, labelledForm, isNameList, finishing, form}
+use Rattle.source.specs.Program.{append, countOutside, ordersOutside, sameName, wordFrom, allKnown, knownCondition, namesIn, canDeclare, isSet, canSet, moved, jumpsIn, all}
 use Rattle.source.specs.Program.{firstUnset, numberOf, closed, statement}
 use Rattle.source.specs.Source.{accepted, refusal, answer, onOutcome, program, notAllowed}
 use Rattle.source.proofs.Examples.{Example, example}
@@ -204,5 +204,5 @@ examples =
     ∷ []
 
 pub all-answered : map (λ e. answer (e .source)) examples ≡ map (λ e. e .is) examples
-unfolding bytes pick repeated levels fixed onFront count retargetPart code asking size temporaries conditionTemporaries outside turn sourceEnd onTurn statementsFrom firstOf run pastRun decimalValue textAt packed lexeme onOne lexemesIn next opens behindFirst joined startOf operandBy linksBy expressionIn named jump simpleAt relationAt labelsAt labelledForm isNameList finishing form append countOutside ordersOutside sameName wordFrom allKnown namesIn canDeclare isSet canSet moved jumpsIn all firstUnset numberOf closed statement onOutcome program notAllowed
+unfolding bytes pick repeated levels fixed onFront count retargetPart code comparisons trying asking size temporaries conditionTemporaries outside turn sourceEnd onTurn statementsFrom firstOf run pastRun decimalValue textAt packed lexeme onOne lexemesIn next opens behindFirst joined startOf operandBy linksBy expressionIn named jump simpleAt relationAt opensCondition memberBy runBy conditionIn labelsAt labelledForm isNameList finishing form append countOutside ordersOutside sameName wordFrom allKnown knownCondition namesIn canDeclare isSet canSet moved jumpsIn all firstUnset numberOf closed statement onOutcome program notAllowed
 all-answered = refl

@@ -131,7 +131,7 @@ module _ (v : ℕ) where
     keyword-fine : OneFine (keywordAt (c ∷ cells))
     keyword-fine =
         on-front (firstOf keywords (c ∷ cells)) (wrong 5)
-        (first-fine keywords (tt, (tt, (tt, (tt, (tt, (tt, (tt, (tt, tt)))))))) (c ∷ cells) h)
+        (first-fine keywords (tt, (tt, (tt, (tt, (tt, (tt, (tt, (tt, (tt, (tt, tt)))))))))) (c ∷ cells) h)
         tt
 
     decimal-fine : OneFine (decimalAt (c ∷ cells))

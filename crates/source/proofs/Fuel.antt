@@ -17,7 +17,7 @@ use Rattle.source.specs.Tokens.{markOpen, markClose, markInvert}
 use Rattle.source.specs.Grammar.{Read, read, none, next, past, operandBy, linksBy, chainBy, link}
 use Rattle.source.specs.Grammar.{expressionIn, expression, Start, start, startOf, bare, invert, tree}
 use Rattle.source.specs.Syntax.{Operand, Expressed}
-use Rattle.source.proofs.SyntaxRead.{operand-some}
+use Rattle.source.proofs.ExpressionsRead.{operand-some}
 use Rattle.source.proofs.ReadSyntax.{Taken, taken, nothing, operand-taken, in-taken}
 
 -- ---- what is read is taken from the front

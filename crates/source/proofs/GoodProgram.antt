@@ -13,6 +13,7 @@ use Rattle.order.specs.Limits.{mostVariables, mostTemporaries, mostOrders}
 use Rattle.sheet.specs.Sheet.{Simple, Part, end, when, either, count, sheet, retargetPart}
 use Rattle.sheet.specs.Orders.{simpleTemporaries}
 use Rattle.sheet.specs.Translation.{size}
+use Rattle.sheet.specs.Condition.{mostComparisons}
 use Rattle.sheet.specs.Within.{mostLevels, PartFormed, Within}
 use Rattle.source.specs.Limits.{mostLabels}
 use Rattle.source.specs.Tokens.{Lexeme, Lexed, lexed, refused as wrong, lexemes}
@@ -22,7 +23,7 @@ use Rattle.source.specs.Program.{Stage, nothing, declarations, instructi
 use Rattle.source.specs.Program.{Group, first, second, Program, nothingRead, append, countOutside, nextNumber, ordersOutside, ordersSoFar}
 use Rattle.source.specs.Program.{Outcome, refused, further, given, knownSimple, knownCondition, known, lookedUp, namesIn, canDeclare, declaring, declare}
 use Rattle.source.specs.Program.{isLabel, labelsSet, canSet, moved, arrived, putOff, takenUp, simpleJumps, jumpsIn, all, setting, alone, placed, groupsOf, listOf, placing}
-use Rattle.source.specs.Program.{level, temporariesIn, ordersWithStop, labelling, instructing, regrouped, finishing, alternating}
+use Rattle.source.specs.Program.{level, temporariesIn, comparisonsIn, ordersWithStop, labelling, instructing, regrouped, finishing, alternating}
 use Rattle.source.specs.Program.{Unset, unset, allSet, firstUnset, numberOf, sheetOf, finished, closed, opened, inOrder, onLexed, statement}
 use Rattle.source.proofs.Each.{Each, each-append, each-map}
 use Rattle.source.proofs.SmallCells.{Small}
@@ -172,39 +173,39 @@ module _ (v : ℕ) (js : List Jump) (gs : List Group) (x : Part) (round : Groups
       ≤ suc (countOutside (groupsOf (placed k gs x i)) + count (listOf (placed k gs x i))))
 
   placed-good : (k : ℕ) (i : Instruction) → InstructionBounded v i → known i ≡ true → Each (Named js) (jumpsIn i)
-      → temporariesIn i ≤ mostTemporaries → level gs i ≤ mostLevels → Placed k i
+      → temporariesIn i ≤ mostTemporaries → comparisonsIn i ≤ mostComparisons → level gs i ≤ mostLevels → Placed k i
   unfolding jumpsIn count countOutside
-  placed-good k (simple u) h y names few levels =
+  placed-good k (simple u) h y names few short levels =
       let shallow = inside .shallow in
       let more = count-append x (alone u) in
       (round, good-append inside (lone (length gs) u h y names few (omega arith)), omega arith)
-  placed-good k (ifThen c u) h y names few levels =
+  placed-good k (ifThen c u) h y names few short levels =
       let both = both-yes (knownCondition c) (knownSimple u) y in
-      let asked : ConditionGood v c = record { formed = known-condition v c (h .0) (both .0); few = omega arith } in
+      let asked : ConditionGood v c = record { formed = (known-condition v c (h .0 .0) (both .0), h .0 .1, short); few = omega arith } in
       let part = lone (suc (length gs)) u (h .1) (both .1) names (omega arith) levels in
       let more = count-append x (when c (alone u) end) in
       (round, good-append inside (good-when asked (omega arith) part), omega arith)
-  placed-good k (ifElse c u w) h y names few levels =
+  placed-good k (ifElse c u w) h y names few short levels =
       let all = both-yes (knownCondition c) (pick (knownSimple u) (knownSimple w) false) y in
       let both = both-yes (knownSimple u) (knownSimple w) (all .1) in
-      let asked : ConditionGood v c = record { formed = known-condition v c (h .0) (all .0); few = omega arith } in
+      let asked : ConditionGood v c = record { formed = (known-condition v c (h .0 .0) (all .0), h .0 .1, short); few = omega arith } in
       let one = lone (suc (length gs)) u (h .1) (both .0) (each-front (Named js) (simpleJumps u) (simpleJumps w) names) (omega arith) levels in
       let two = lone (suc (length gs)) w (h .2) (both .1) (each-rest (Named js) (simpleJumps u) (simpleJumps w) names) (omega arith) levels in
       let more = count-append x (either c (alone u) (alone w) end) in
       (round, good-append inside (good-either asked (omega arith) one (omega arith) two), omega arith)
-  placed-good k (ifStart c) h y names few levels =
-      let asked : ConditionGood v c = record { formed = known-condition v c h y; few = few } in
+  placed-good k (ifStart c) h y names few short levels =
+      let asked : ConditionGood v c = record { formed = (known-condition v c (h .0) y, h .1, short); few = few } in
       ((inside, asked, round), good-end levels, omega arith)
 
 module _ (p : Program) (g : Good p) where
   placing-good : (k : ℕ) (i : Instruction) → InstructionBounded (length (p .names)) i → known i ≡ true → temporariesIn i ≤ mostTemporaries
-      → level (p .groups) i ≤ mostLevels → suc (ordersSoFar (placing k i p)) ≤ mostOrders → Good (placing k i p)
-  placing-good k i h y few levels orders =
+      → comparisonsIn i ≤ mostComparisons → level (p .groups) i ≤ mostLevels → suc (ordersSoFar (placing k i p)) ≤ mostOrders → Good (placing k i p)
+  placing-good k i h y few short levels orders =
       let v = length (p .names) in
       let js = p .jumps in
       let ms = map (jump k) (jumpsIn i) in
       let names = each-map (Named ms) (Named (js ++ ms)) (named-behind js ms) (jumpsIn i) (named-all k (jumpsIn i)) in
-      let all = placed-good v (js ++ ms) (p .groups) (p .here) (groups-more v js ms (p .groups) (g .round)) (good-more v js ms (g .inside)) k i h y names few levels in
+      let all = placed-good v (js ++ ms) (p .groups) (p .here) (groups-more v js ms (p .groups) (g .round)) (good-more v js ms (g .inside)) k i h y names few short levels in
       record {
         few-names = g .few-names;
         round = all .0;
@@ -229,14 +230,17 @@ module _ (p : Program) (g : Good p) where
       (λ y. tt)
       (λ n. either-part OutcomeGood (ltb mostTemporaries (temporariesIn i)) _ _
       (λ y. tt)
-      (λ few. either-part OutcomeGood (ltb mostLevels (level (p .groups) i)) _ _
+      (λ few. either-part OutcomeGood (ltb mostComparisons (comparisonsIn i)) _ _
+      (λ y. tt)
+      (λ short. either-part OutcomeGood (ltb mostLevels (level (p .groups) i)) _ _
       (λ y. tt)
       (λ levels. either-part OutcomeGood (ltb mostOrders (ordersWithStop (placing k i q))) _ _
       (λ y. tt)
       (λ within. let orders = ltb-false mostOrders (ordersWithStop (placing k i q)) within in placing-good q (setting-good p g ls) k i h known
       (ltb-false mostTemporaries (temporariesIn i) few)
+      (ltb-false mostComparisons (comparisonsIn i) short)
       (ltb-false mostLevels (level (p .groups) i) levels)
-      (omega (arith, orders)))))))
+      (omega (arith, orders))))))))
       (λ n. tt))
       (λ n. tt))
       (λ n. tt)

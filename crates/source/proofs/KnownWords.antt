@@ -10,9 +10,9 @@ use lib.Dec.{eqb}
 use Rattle.base.specs.Choice.{pick}
 use Rattle.base.proofs.Cases.{both-yes, chosen-first}
 use Rattle.sheet.specs.Sheet.{Expression, word, constant, negated, inverted, binary, Simple, set, send, goto}
-use Rattle.sheet.specs.Sheet.{Condition, compares, Part, end, plain, when, either, count, retarget, retargetPart}
+use Rattle.sheet.specs.Sheet.{Condition, compares, joins, Part, end, plain, when, either, count, retarget, retargetPart}
 use Rattle.sheet.specs.Formed.{IsVariable, Expressed, Leads, SimpleFormed}
-use Rattle.sheet.specs.Condition.{ConditionFormed}
+use Rattle.sheet.specs.Condition.{AllExpressed, ConditionFormed}
 use Rattle.sheet.specs.Within.{PartFormed}
 use Rattle.source.specs.Program.{isKnown, allKnown, knownSimple, knownCondition, Spot, before, next, behind, Label, label}
 use Rattle.source.specs.Program.{Jump, jump, append, isSet, simpleJumps, unset, allSet, firstUnset, numberAt, numberOf}
@@ -71,10 +71,14 @@ module _ (v : ℕ) where
       let both = both-yes (allKnown l) (allKnown r) k in
       (known-expression l (h .0) (both .0), known-expression r (h .1) (both .1))
 
-  pub known-condition : (c : Condition) → ConditionBounded v c → knownCondition c ≡ true → ConditionFormed v c
+  pub known-condition : (c : Condition) → ConditionBounded v c → knownCondition c ≡ true → AllExpressed v c
+  unfolding knownCondition AllExpressed
   known-condition (compares r a b) h k =
       let both = both-yes (allKnown a) (allKnown b) k in
       (known-expression a (h .0) (both .0), known-expression b (h .1) (both .1))
+  known-condition (joins w a b) h k =
+      let both = both-yes (knownCondition a) (knownCondition b) k in
+      (known-condition a (h .0) (both .0), known-condition b (h .1) (both .1))
 
   module _ (js : List Jump) where
     -- words are variables, and each jump is one of these

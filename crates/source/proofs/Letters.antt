@@ -140,7 +140,9 @@ module _ (p : Program) (k most : ℕ) (same : lettersIn (p .names) ≤ most) whe
       (λ y. tt)
       (λ n. either-part (LettersWithin most) _ _ _
       (λ y. tt)
-      (λ n. either-part (LettersWithin most) _ _ _ (λ y. tt) (λ n. same)))))
+      (λ n. either-part (LettersWithin most) _ _ _
+      (λ y. tt)
+      (λ n. either-part (LettersWithin most) _ _ _ (λ y. tt) (λ n. same))))))
       (λ n. tt))
       (λ n. tt))
       (λ n. tt)

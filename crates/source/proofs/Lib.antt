@@ -4,6 +4,7 @@ pub mod Chains
 pub mod Each
 pub mod EveryCell
 pub mod Examples
+pub mod ExamplesOfConditions
 pub mod ExamplesOfGroups
 pub mod FineTokens
 pub mod Fuel
@@ -23,6 +24,8 @@ pub mod Stored
 pub mod Syntax
 pub mod SyntaxChains
 pub mod SyntaxExamples
+pub mod ExpressionsRead
+pub mod ConditionsRead
 pub mod SyntaxRead
 pub mod Turns
 pub mod WithinLimits

@@ -10,7 +10,8 @@ use Rattle.sheet.specs.Orders.{simpleSize, simpleTemporaries}
 use Rattle.sheet.specs.Translation.{size, temporariesOf}
 use Rattle.sheet.specs.Within.{depth}
 use Rattle.sheet.specs.declared.Field.the-variants.{Else, Finish}
-use Rattle.sheet.specs.Fields.{simpleFields, partFields}
+use Rattle.sheet.specs.Fields.{simpleFields}
+use Rattle.sheet.specs.Memory.{partFields}
 use Rattle.source.specs.Grammar.{simple, ifThen, ifElse, ifStart}
 use Rattle.source.specs.Fields.{instructionFields}
 use Rattle.source.specs.Program.{append, alone}

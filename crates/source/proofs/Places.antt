@@ -159,7 +159,9 @@ module _ (p : Program) (k : ℕ) (early : Early k p) where
       (λ y. here k 11 (omega arith) (omega arith))
       (λ n. either-part (OutcomeBounded k) _ _ _
       (λ y. here k 11 (omega arith) (omega arith))
-      (λ n. (each-append (JumpEarly k) (p .jumps) (map (jump k) (jumpsIn i)) (early .0) (jumps-early k (jumpsIn i)), placed-early i))))))
+      (λ n. either-part (OutcomeBounded k) _ _ _
+      (λ y. here k 11 (omega arith) (omega arith))
+      (λ n. (each-append (JumpEarly k) (p .jumps) (map (jump k) (jumpsIn i)) (early .0) (jumps-early k (jumpsIn i)), placed-early i)))))))
       (λ n. here k 9 (omega arith) (omega arith)))
       (λ n. here k 9 (omega arith) (omega arith)))
       (λ n. here k 8 (omega arith) (omega arith))

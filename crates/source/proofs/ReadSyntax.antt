@@ -5,24 +5,29 @@ use mathlib.Core.Path.{_≡_, refl, sym, ap, subst}
 use mathlib.Core.Bool.{true, false≢true}
 use mathlib.Core.List.{List, [], _∷_, _++_, append-assoc, append-nil}
 use lib.Dec.{eqb}
+use lib.ListN.{length}
 use borrow.Author.Tests.{eqb-true}
 use Rattle.base.specs.Choice.{pick}
 use Rattle.base.proofs.Cases.{either-part, both-yes}
 use Rattle.word.specs.declared.Relation.{Relation}
 use Rattle.word.specs.declared.Relation.the-variants.{Equal, Unequal, Less, AtMost, Greater, AtLeast}
 use Rattle.sheet.specs.declared.Operator.the-variants.{Plus, Minus, Times, Over, Power, Left, Right, And, Or, Unlike}
+use Rattle.sheet.specs.declared.Joining.{Joining}
+use Rattle.sheet.specs.declared.Joining.the-variants.{And as AndRun, Or as OrRun}
 use Rattle.sheet.specs.Sheet.{Expression, Simple, set, send, Condition, compares}
+use Rattle.sheet.specs.Merge.{joinOf}
 use Rattle.source.specs.declared.Token.{Token}
 use Rattle.source.specs.declared.Token.the-variants.{Name, Number, Quoted, Binary, Compare, Mark}
 use Rattle.source.specs.Tokens.{markBegin, markEnd, markInteger, markIf, markThen, markElse, markArrow, markOpen}
-use Rattle.source.specs.Tokens.{markStart, markFinish, markClose, markComma, markColon, markInvert}
+use Rattle.source.specs.Tokens.{markStart, markFinish, markAnd, markClose, markComma, markColon, markInvert}
 use Rattle.source.specs.Grammar.{Read, read, none, next, past, isMark, opens, behindFirst, operandBy, linksBy, chainBy, expressionIn, expression}
-use Rattle.source.specs.Grammar.{link, Lead, bare, minus, invert, tree, start, startOf, sendWord, isEqual, named, jump, simpleAt, relationAt, conditionAt}
+use Rattle.source.specs.Grammar.{link, Lead, bare, minus, invert, tree, start, startOf, sendWord, isEqual, named, jump, simpleAt, relationAt, comparisonAt}
+use Rattle.source.specs.Grammar.{holdsRelation, opensCondition, memberBy, markOf, runBy, joinedBy, conditionIn, conditionAt}
 use Rattle.source.specs.Grammar.{Instruction, simple, ifThen, ifElse, ifStart, chosen, consequent, conditional, instructionAt}
 use Rattle.source.specs.Grammar.{Form, beginning, declaration, ending, finish, finishElse, noForm, Labelled, labelled, further, labelsAt, entire, labelledForm}
 use Rattle.source.specs.Grammar.{isName, isNameList, only, finishing, form}
 use Rattle.source.specs.Syntax.{later, Operand, named as name, decimal, quoted, bracketed, Expressed, expression as level-one, plus}
-use Rattle.source.specs.Syntax.{Simply, assignment, sending, jump as jumping, Asked, comparison, Instructed, simply, conditional as on-condition, alternative, opening}
+use Rattle.source.specs.Syntax.{Simply, assignment, sending, jump as jumping, Member, comparison, enclosed, Joined, two, more, Asked, single, run, Instructed, simply, conditional as on-condition, alternative, opening}
 use Rattle.source.specs.Syntax.{LabelList, none as no-label, label, NameList, last, comma, Stated, begin, integers, instructed, alone as labels-alone, finishes, goes-on, end}
 use Rattle.source.proofs.SyntaxChains.{Links, none as no-links, linked, leadTokens, bare-level, sign-level}
 
@@ -226,16 +231,80 @@ relation-taken (Mark m ∷ ts) = nothing
 
 module _ {xs : List Token} {a : Expression} (c : Expressed xs a) where
   second-taken : {vs : List Token} {r : Relation} → Related vs r → (ts : List Token)
-      → Taken (λ us k. Asked (xs ++ (vs ++ us)) k) ts (next (expression ts) (λ b rest. read (compares r a b) rest))
+      → Taken (λ us k. Member (xs ++ (vs ++ us)) k) ts (next (expression ts) (λ b rest. read (compares r a b) rest))
   second-taken (related r) ts =
-      map-taken Expressed (λ us k. Asked (xs ++ Compare r ∷ us) k) (compares r a) (expression-taken ts)
+      map-taken Expressed (λ us k. Member (xs ++ Compare r ∷ us) k) (compares r a) (expression-taken ts)
       (λ ys b d. comparison r c d)
 
-condition-taken : (ts : List Token) → Taken Asked ts (conditionAt ts)
-condition-taken ts =
-    next-taken Expressed Asked _ (expression-taken ts)
-    (λ xs a c behind-a. next-taken Related (λ us k. Asked (xs ++ us) k) _ (relation-taken behind-a)
+comparison-taken : (ts : List Token) → Taken Member ts (comparisonAt ts)
+comparison-taken ts =
+    next-taken Expressed Member _ (expression-taken ts)
+    (λ xs a c behind-a. next-taken Related (λ us k. Member (xs ++ us) k) _ (relation-taken behind-a)
     (λ vs r q others. second-taken c q others))
+
+-- ---- conditions
+
+-- members that the word w joins, of which there is one at least
+data Begun : Joining → List Token → Condition → Type 0 where
+  one : {w : Joining} {ts : List Token} {c : Condition} → Member ts c → Begun w ts c
+  some : {w : Joining} {ts : List Token} {c : Condition} → Joined w ts c → Begun w ts c
+
+one-joined : {w : Joining} {ts us : List Token} {a b : Condition} → Begun w ts a → Member us b
+    → Begun w (ts ++ Mark (markOf w) ∷ us) (joinOf w a b)
+one-joined {w} (one m) n = some (two w m n)
+one-joined {w} (some j) n = some (more w j n)
+
+begun-asked : {w : Joining} {ts : List Token} {c : Condition} → Begun w ts c → Asked ts c
+begun-asked (one m) = single m
+begun-asked (some j) = run j
+
+-- what was taken, as something else
+taken-as : {A : Type 0} (R S : List Token → A → Type 0) {ts : List Token} {x : Read A} → ((us : List Token) (a : A) → R us a → S us a)
+    → Taken R ts x → Taken S ts x
+taken-as R S h (taken {ts = us} {a = a} r rest) = taken (h us a r) rest
+taken-as R S h nothing = nothing
+
+module _ (inner : List Token → Read Condition) (inner-taken : (ts : List Token) → Taken Asked ts (inner ts)) where
+  member-taken : (ts : List Token) → Taken Member ts (memberBy inner ts)
+  unfolding memberBy opensCondition
+  member-taken ts =
+      either-part (Taken Member ts) (opensCondition ts) _ (comparisonAt ts)
+      (λ y. subst (λ us. Taken Member us (next (inner (behindFirst ts)) (λ c rest. past markClose rest (λ l. read c l))))
+      (opens-with markOpen ts (both-yes (opens markOpen ts) (holdsRelation 0 (behindFirst ts)) y .0))
+      (behind Member (Mark markOpen ∷ [])
+      (next-taken Asked (λ vs c. Member (Mark markOpen ∷ vs) c) (λ c rest. past markClose rest (λ l. read c l)) (inner-taken (behindFirst ts))
+      (λ us c d rest. past-taken (λ vs a. Member (Mark markOpen ∷ us ++ vs) a) markClose rest (λ l. read c l) (λ vs. taken (enclosed d) vs)))))
+      (λ n. comparison-taken ts)
+
+  run-taken : (w : Joining) (k : ℕ) {xs : List Token} {c : Condition} → Begun w xs c → (ts : List Token)
+      → Taken (λ us d. Begun w (xs ++ us) d) ts (runBy inner w k c ts)
+  unfolding runBy
+  run-taken w zero b ts = nothing
+  run-taken w (suc k) {xs} {c} b ts =
+      by-mark (Taken (λ us d. Begun w (xs ++ us) d)) (markOf w) ts _ (read c ts)
+      (λ others. behind (λ us d. Begun w (xs ++ us) d) (Mark (markOf w) ∷ [])
+      (next-taken Member (λ us d. Begun w (xs ++ Mark (markOf w) ∷ us) d) _ (member-taken others)
+      (λ us m q rest. taken-as (λ vs d. Begun w ((xs ++ Mark (markOf w) ∷ us) ++ vs) d) (λ vs d. Begun w (xs ++ Mark (markOf w) ∷ (us ++ vs)) d)
+      (λ vs d r. subst (λ z. Begun w z d) (append-assoc xs (Mark (markOf w) ∷ us) vs) r)
+      (run-taken w k (one-joined b q) rest))))
+      (taken {ts = []} (rw (append-nil xs) b) ts)
+
+  joined-taken : (k : ℕ) {xs : List Token} {c : Condition} → Member xs c → (ts : List Token)
+      → Taken (λ us d. Asked (xs ++ us) d) ts (joinedBy inner k c ts)
+  joined-taken k {xs} {c} m ts =
+      either-part (Taken (λ us d. Asked (xs ++ us) d) ts) (opens markAnd ts) _ _
+      (λ y. taken-as (λ us d. Begun AndRun (xs ++ us) d) (λ us d. Asked (xs ++ us) d) (λ us d b. begun-asked b) (run-taken AndRun k (one m) ts))
+      (λ n. taken-as (λ us d. Begun OrRun (xs ++ us) d) (λ us d. Asked (xs ++ us) d) (λ us d b. begun-asked b) (run-taken OrRun k (one m) ts))
+
+conditions-taken : (k : ℕ) (ts : List Token) → Taken Asked ts (conditionIn k ts)
+unfolding conditionIn
+conditions-taken zero ts = nothing
+conditions-taken (suc k) ts =
+    next-taken Member Asked _ (member-taken (conditionIn k) (conditions-taken k) ts)
+    (λ xs c m rest. joined-taken (conditionIn k) (conditions-taken k) (suc k) m rest)
+
+condition-taken : (ts : List Token) → Taken Asked ts (conditionAt ts)
+condition-taken ts = conditions-taken (length ts) ts
 
 -- the tokens of an instruction, part by part from the left
 abbrev AfterIf : List Token → Instruction → Type 0

@@ -10,7 +10,7 @@ use Rattle.source.specs.declared.Token.{Token}
 use Rattle.source.specs.declared.Token.the-variants.{Name, Number, Binary, Compare, Mark}
 use Rattle.source.specs.Tokens.{markIf, markThen, markElse, markStart, markFinish, markOpen, markClose, markColon, markInvert, markArrow}
 use Rattle.source.specs.Grammar.{simple, Form, instruction, next, opens, behindFirst, joined, startOf, operandBy, linksBy, expressionIn}
-use Rattle.source.specs.Grammar.{named, jump, simpleAt, relationAt, labelsAt, labelledForm, finishing, form}
+use Rattle.source.specs.Grammar.{named, jump, simpleAt, relationAt, holdsRelation, opensCondition, memberBy, runBy, conditionIn, labelsAt, labelledForm, finishing, form}
 use Rattle.source.specs.Syntax.{Stated}
 use Rattle.source.proofs.Syntax.{IsForm, form-stated, none-stated}
 
@@ -47,7 +47,7 @@ formless =
     ∷ []
 
 pub no-form : Each (λ ts. (f : Form) → Stated ts f → ⊥) formless
-unfolding pick next opens behindFirst joined startOf operandBy linksBy expressionIn named jump simpleAt relationAt labelsAt labelledForm finishing form
+unfolding pick next opens behindFirst joined startOf operandBy linksBy expressionIn named jump simpleAt relationAt holdsRelation opensCondition memberBy runBy conditionIn labelsAt labelledForm finishing form
 no-form = (
   none-stated _ refl,
   (

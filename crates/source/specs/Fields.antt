@@ -4,7 +4,8 @@
 use mathlib.Core.List.{List, [], _∷_, _++_}
 use Rattle.sheet.specs.declared.Field.{Field}
 use Rattle.sheet.specs.declared.Field.the-variants.{Else, Start, Finish, If}
-use Rattle.sheet.specs.Fields.{simpleFields, conditionFields}
+use Rattle.sheet.specs.Fields.{simpleFields}
+use Rattle.sheet.specs.Memory.{conditionFields}
 use Rattle.source.specs.Grammar.{Instruction, simple, ifThen, ifElse, ifStart}
 
 abbrev pub instructionFields : Instruction → List Field

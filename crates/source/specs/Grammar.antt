@@ -1,4 +1,4 @@
--- From tokens to statements, document 01 ("Statements") and 02, L1. Comments in quotes are their words.
+-- From tokens to statements, document 01 ("Statements") and 02, L1 and L5. Comments in quotes are their words.
 use Prim.Native.Nat.{ℕ, zero, suc}
 use mathlib.Core.Bool.{Bool, true, false}
 use mathlib.Core.List.{List, [], _∷_}
@@ -9,12 +9,15 @@ use Rattle.word.specs.declared.Relation.{Relation}
 use Rattle.word.specs.declared.Relation.the-variants.{Equal, Unequal, Less, AtMost, Greater, AtLeast}
 use Rattle.sheet.specs.declared.Operator.{Operator}
 use Rattle.sheet.specs.declared.Operator.the-variants.{Plus, Minus, Times, Over, Power, Left, Right, And, Or, Unlike}
+use Rattle.sheet.specs.declared.Joining.{Joining}
+use Rattle.sheet.specs.declared.Joining.the-variants.{And as AndRun, Or as OrRun}
 use Rattle.sheet.specs.Sheet.{Expression, word, constant, negated, inverted, binary, Simple, set, send, goto}
 use Rattle.sheet.specs.Sheet.{Condition, compares}
+use Rattle.sheet.specs.Merge.{joinOf}
 use Rattle.source.specs.declared.Token.{Token}
 use Rattle.source.specs.declared.Token.the-variants.{Name, Number, Quoted, Binary, Compare, Mark}
 use Rattle.source.specs.Tokens.{markBegin, markEnd, markInteger, markIf, markThen, markElse, markArrow, markOpen}
-use Rattle.source.specs.Tokens.{markStart, markFinish, markClose, markComma, markColon, markInvert}
+use Rattle.source.specs.Tokens.{markStart, markFinish, markAnd, markOr, markClose, markComma, markColon, markInvert}
 
 -- ---- reading at the front of tokens
 
@@ -225,12 +228,72 @@ relationAt (Binary o ∷ ts) = none
 relationAt (Compare r ∷ ts) = read r ts
 relationAt (Mark m ∷ ts) = none
 
--- a condition: "expr rel expr"
-abbrev pub conditionAt : List Token → Read Condition
-conditionAt ts =
+-- "expr rel expr"
+abbrev pub comparisonAt : List Token → Read Condition
+comparisonAt ts =
     next
     (expression ts)
     (λ a behind. next (relationAt behind) (λ r others. next (expression others) (λ b rest. read (compares r a b) rest)))
+
+-- ---- conditions: "`%AND`, `%OR` and bracketed conditions"
+
+-- whether a relation stands before the end of a bracket, of which this is inside; d brackets are open in it. At the end of the
+-- bracket there is none
+abbrev pub outwards : ℕ → (ℕ → Bool) → Bool
+outwards zero test = false
+outwards (suc d) test = test d
+
+unfoldable pub holdsRelation : ℕ → List Token → Bool
+holdsRelation d [] = false
+holdsRelation d (Name w ∷ ts) = holdsRelation d ts
+holdsRelation d (Number n ∷ ts) = holdsRelation d ts
+holdsRelation d (Quoted n ∷ ts) = holdsRelation d ts
+holdsRelation d (Binary o ∷ ts) = holdsRelation d ts
+holdsRelation d (Compare r ∷ ts) = true
+holdsRelation d (Mark m ∷ ts) =
+    pick
+    (eqb m markOpen)
+    (holdsRelation (suc d) ts)
+    (pick (eqb m markClose) (outwards d (λ e. holdsRelation e ts)) (holdsRelation d ts))
+
+-- no expression holds a relation, and every condition does: so a bracket at the front is a condition's where it holds one
+unfoldable pub opensCondition : List Token → Bool
+opensCondition ts = pick (opens markOpen ts) (holdsRelation 0 (behindFirst ts)) false
+
+-- a member: a comparison, or a condition in brackets, which `inner` reads
+unfoldable pub memberBy : (List Token → Read Condition) → List Token → Read Condition
+memberBy inner ts =
+    pick
+    (opensCondition ts)
+    (next (inner (behindFirst ts)) (λ c rest. past markClose rest (λ l. read c l)))
+    (comparisonAt ts)
+
+abbrev pub markOf : Joining → ℕ
+markOf AndRun = markAnd
+markOf OrRun = markOr
+
+-- the members behind those of c that the word w joins to them, at most k
+unfoldable pub runBy : (List Token → Read Condition) → Joining → ℕ → Condition → List Token → Read Condition
+runBy inner w zero c ts = none
+runBy inner w (suc k) c ts =
+    pick
+    (opens (markOf w) ts)
+    (next (memberBy inner (behindFirst ts)) (λ b rest. runBy inner w k (joinOf w c b) rest))
+    (read c ts)
+
+-- behind the first member: the first word joins all. "Mixing the two without brackets is refusal 7": another word is left over
+abbrev pub joinedBy : (List Token → Read Condition) → ℕ → Condition → List Token → Read Condition
+joinedBy inner k c ts = pick (opens markAnd ts) (runBy inner AndRun k c ts) (runBy inner OrRun k c ts)
+
+-- a condition of at most k tokens
+unfoldable pub conditionIn : ℕ → List Token → Read Condition
+conditionIn zero ts = none
+conditionIn (suc k) ts = next (memberBy (conditionIn k) ts) (λ c rest. joinedBy (conditionIn k) (suc k) c rest)
+
+abbrev pub conditionAt : List Token → Read Condition
+conditionAt ts = conditionIn (length ts) ts
+
+-- ---- instructions
 
 -- what a statement that is an instruction says: u alone; `%IF c %THEN u`; the same with `%ELSE u`; or `%IF c %THEN %START`
 pub data Instruction : Type 0 where

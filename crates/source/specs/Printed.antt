@@ -4,11 +4,11 @@ use mathlib.Core.List.{List, [], _∷_, _++_}
 use Rattle.word.specs.declared.Relation.the-variants.{Equal}
 use Rattle.sheet.specs.declared.Operator.the-variants.{Minus}
 use Rattle.sheet.specs.Sheet.{Expression, word, constant, negated, inverted, binary, Simple, set, send, goto}
-use Rattle.sheet.specs.Sheet.{Condition, compares}
+use Rattle.sheet.specs.Sheet.{Condition, compares, joins}
 use Rattle.source.specs.declared.Token.{Token}
 use Rattle.source.specs.declared.Token.the-variants.{Name, Number, Quoted, Binary, Compare, Mark}
 use Rattle.source.specs.Tokens.{markIf, markThen, markElse, markStart, markArrow, markOpen, markClose, markColon, markInvert}
-use Rattle.source.specs.Grammar.{sendWord, Instruction, simple, ifThen, ifElse, ifStart}
+use Rattle.source.specs.Grammar.{sendWord, markOf, Instruction, simple, ifThen, ifElse, ifStart}
 
 unfoldable pub printed : Expression → List Token
 printed (word w) = Name w ∷ []
@@ -22,8 +22,15 @@ printedSimple (set w e) = Name w ∷ Compare Equal ∷ printed e
 printedSimple (send e) = Name sendWord ∷ Mark markOpen ∷ (printed e ++ (Mark markClose ∷ []))
 printedSimple (goto l) = Mark markArrow ∷ Number l ∷ []
 
+-- a condition that is a member: a run is in brackets
+unfoldable pub printedMember : Condition → List Token
+printedMember (compares r a b) = printed a ++ (Compare r ∷ printed b)
+printedMember (joins w a b) =
+    Mark markOpen ∷ ((printedMember a ++ (Mark (markOf w) ∷ printedMember b)) ++ (Mark markClose ∷ []))
+
 abbrev pub printedCondition : Condition → List Token
-printedCondition (compares r a b) = printed a ++ (Compare r ∷ printed b)
+printedCondition (compares r a b) = printedMember (compares r a b)
+printedCondition (joins w a b) = printedMember a ++ (Mark (markOf w) ∷ printedMember b)
 
 abbrev pub printedInstruction : Instruction → List Token
 printedInstruction (simple u) = printedSimple u

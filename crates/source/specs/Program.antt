@@ -1,5 +1,5 @@
--- From statements to a sheet, document 01 ("Statements", "What the box replies") and 02, L1: the order of parts, names, labels,
--- groups and limits. Comments in quotes are their words.
+-- From statements to a sheet, document 01 ("Statements", "What the box replies") and 02, L1 and L5: the order of parts,
+-- names, labels, groups and limits. Comments in quotes are their words.
 use Prim.Native.Nat.{ℕ, suc, _+_, max}
 use mathlib.Core.Bool.{Bool, true, false}
 use mathlib.Core.List.{List, [], _∷_, _++_, map}
@@ -9,9 +9,9 @@ use Rattle.base.specs.Choice.{pick}
 use Rattle.base.specs.Text.{bytes}
 use Rattle.order.specs.Limits.{mostVariables, mostTemporaries, mostOrders}
 use Rattle.sheet.specs.Sheet.{Expression, word, constant, negated, inverted, binary, Simple, set, send, goto}
-use Rattle.sheet.specs.Sheet.{Condition, compares, Part, end, plain, when, either, count, Sheet, sheet, retargetPart}
+use Rattle.sheet.specs.Sheet.{Condition, compares, joins, Part, end, plain, when, either, count, Sheet, sheet, retargetPart}
 use Rattle.sheet.specs.Orders.{simpleTemporaries}
-use Rattle.sheet.specs.Condition.{asking, conditionTemporaries}
+use Rattle.sheet.specs.Condition.{comparisons, mostComparisons, asking, conditionTemporaries}
 use Rattle.sheet.specs.Translation.{size}
 use Rattle.sheet.specs.Within.{mostLevels}
 use Rattle.source.specs.declared.Token.{Token}
@@ -132,8 +132,9 @@ knownSimple (set w e) = pick (isKnown w) (allKnown e) false
 knownSimple (send e) = allKnown e
 knownSimple (goto l) = true
 
-abbrev pub knownCondition : Condition → Bool
+unfoldable pub knownCondition : Condition → Bool
 knownCondition (compares r a b) = pick (allKnown a) (allKnown b) false
+knownCondition (joins w a b) = pick (knownCondition a) (knownCondition b) false
 
 -- whether every name of an instruction is a variable's
 abbrev pub known : Instruction → Bool
@@ -289,6 +290,13 @@ temporariesIn (ifThen c u) = max (conditionTemporaries c) (simpleTemporaries u)
 temporariesIn (ifElse c u w) = max (conditionTemporaries c) (max (simpleTemporaries u) (simpleTemporaries w))
 temporariesIn (ifStart c) = conditionTemporaries c
 
+-- the comparisons of an instruction
+abbrev pub comparisonsIn : Instruction → ℕ
+comparisonsIn (simple u) = 0
+comparisonsIn (ifThen c u) = comparisons c
+comparisonsIn (ifElse c u w) = comparisons c
+comparisonsIn (ifStart c) = comparisons c
+
 -- "over .. set labels"
 abbrev pub withFewLabels : ℕ → Program → Outcome → Outcome
 withFewLabels k p o = pick (ltb mostLabels (length (p .set))) (refused 11 k) o
@@ -302,6 +310,10 @@ withFewOrders k p = pick (ltb mostOrders (ordersWithStop p)) (refused 11 k) (fur
 
 abbrev pub withFewTemporaries : ℕ → Instruction → Outcome → Outcome
 withFewTemporaries k i o = pick (ltb mostTemporaries (temporariesIn i)) (refused 11 k) o
+
+-- "up to 16 comparisons .. over 16 is 11"
+abbrev pub withFewComparisons : ℕ → Instruction → Outcome → Outcome
+withFewComparisons k i o = pick (ltb mostComparisons (comparisonsIn i)) (refused 11 k) o
 
 abbrev pub withFewLevels : ℕ → List Group → Instruction → Outcome → Outcome
 withFewLevels k gs i o = pick (ltb mostLevels (level gs i)) (refused 11 k) o
@@ -325,7 +337,10 @@ instructing p k ls i =
     (withFewLabels
     k
     (setting p ls)
-    (withFewTemporaries k i (withFewLevels k (p .groups) i (withFewOrders k (placing k i (setting p ls)))))))
+    (withFewTemporaries
+    k
+    i
+    (withFewComparisons k i (withFewLevels k (p .groups) i (withFewOrders k (placing k i (setting p ls))))))))
     (refused 9 k))
     (refused 8 k)
 

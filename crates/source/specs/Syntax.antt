@@ -1,4 +1,4 @@
--- The syntax of statements, document 01 ("Statements") and 02, L1, as relations between tokens and what they stand for. It
+-- The syntax of statements, document 01 ("Statements") and 02, L1 and L5, as relations between tokens and what they stand for. It
 -- speaks of no reader: proofs/Syntax shows that `form` of Grammar finds these forms and no others. In tokens a name is its word,
 -- and SEND is `sendWord`; whether a name is known, and whether a label is "1 to 9999", is no matter of form. Comments in quotes
 -- are their words.
@@ -8,13 +8,15 @@ use Rattle.word.specs.declared.Relation.{Relation}
 use Rattle.word.specs.declared.Relation.the-variants.{Equal}
 use Rattle.sheet.specs.declared.Operator.{Operator}
 use Rattle.sheet.specs.declared.Operator.the-variants.{Plus, Minus}
+use Rattle.sheet.specs.declared.Joining.{Joining}
 use Rattle.sheet.specs.Sheet.{Expression, word, constant, negated, inverted, binary, Simple, set, send, goto}
 use Rattle.sheet.specs.Sheet.{Condition, compares}
+use Rattle.sheet.specs.Merge.{joinOf}
 use Rattle.source.specs.declared.Token.{Token}
 use Rattle.source.specs.declared.Token.the-variants.{Name, Number, Quoted, Binary, Compare, Mark}
 use Rattle.source.specs.Tokens.{markBegin, markEnd, markInteger, markIf, markThen, markElse, markArrow, markOpen}
 use Rattle.source.specs.Tokens.{markStart, markFinish, markClose, markComma, markColon, markInvert}
-use Rattle.source.specs.Grammar.{level, sendWord, Instruction, simple, ifThen, ifElse, ifStart}
+use Rattle.source.specs.Grammar.{level, sendWord, markOf, Instruction, simple, ifThen, ifElse, ifStart}
 use Rattle.source.specs.Grammar.{Form, beginning, declaration, ending, labels, instruction, finish, finishElse}
 
 -- ---- expressions. "An expression may begin with one `+`, `-` or `\`, also inside brackets, nowhere else."
@@ -51,7 +53,7 @@ mutual
     plus : {ts : List Token} {e : Expression} → Level later 1 ts e → Expressed (Binary Plus ∷ ts) e
 
 -- ---- instructions. "An instruction is `name = expr`, `SEND(expr)`, `->label`, or `%IF expr rel expr %THEN u` with an
--- optional `%ELSE u`, where u is one of the first three. rel is `= # < <= > >=`."
+-- optional `%ELSE u`, where u is one of the first three. rel is `= # < <= > >=`." A condition is more than `expr rel expr` (02, L5).
 
 -- u
 pub data Simply : List Token → Simple → Type 0 where
@@ -60,10 +62,24 @@ pub data Simply : List Token → Simple → Type 0 where
       → Simply (Name sendWord ∷ Mark markOpen ∷ ts ++ Mark markClose ∷ []) (send e)
   jump : (l : ℕ) → Simply (Mark markArrow ∷ Number l ∷ []) (goto l)
 
--- "expr rel expr"
-pub data Asked : List Token → Condition → Type 0 where
-  comparison : {xs ys : List Token} {a b : Expression} (r : Relation) → Expressed xs a → Expressed ys b
-      → Asked (xs ++ Compare r ∷ ys) (compares r a b)
+-- "`%AND`, `%OR` and bracketed conditions"
+mutual
+  -- "expr rel expr", or a condition in brackets
+  pub data Member : List Token → Condition → Type 0 where
+    comparison : {xs ys : List Token} {a b : Expression} (r : Relation) → Expressed xs a → Expressed ys b
+        → Member (xs ++ Compare r ∷ ys) (compares r a b)
+    enclosed : {ts : List Token} {c : Condition} → Asked ts c → Member (Mark markOpen ∷ ts ++ Mark markClose ∷ []) c
+
+  -- two members or more, joined by one word: "Mixing the two without brackets is refusal 7"
+  pub data Joined : Joining → List Token → Condition → Type 0 where
+    two : (w : Joining) {ts us : List Token} {a b : Condition} → Member ts a → Member us b
+        → Joined w (ts ++ Mark (markOf w) ∷ us) (joinOf w a b)
+    more : (w : Joining) {ts us : List Token} {a b : Condition} → Joined w ts a → Member us b
+        → Joined w (ts ++ Mark (markOf w) ∷ us) (joinOf w a b)
+
+  pub data Asked : List Token → Condition → Type 0 where
+    single : {ts : List Token} {c : Condition} → Member ts c → Asked ts c
+    run : {w : Joining} {ts : List Token} {c : Condition} → Joined w ts c → Asked ts c
 
 pub data Instructed : List Token → Instruction → Type 0 where
   simply : {ts : List Token} {u : Simple} → Simply ts u → Instructed ts (simple u)

@@ -1,5 +1,5 @@
 -- From cells to tokens, document 01: "A run of keyword letters is cut from the left, always taking the longest of BEGIN
--- ENDOFPROGRAM INTEGER IF THEN ELSE", and of START and FINISH of 02, L1. "A name is a letter and the letters and digits after it,
+-- ENDOFPROGRAM INTEGER IF THEN ELSE", of START and FINISH of 02, L1, and of AND and OR of L5. "A name is a letter and the letters and digits after it,
 -- compared whole." Comments in quotes are document 01's words.
 use Prim.Native.Nat.{ℕ, zero, suc, _+_, _-_, _*_}
 use Prim.Native.String.{String}
@@ -47,6 +47,12 @@ markStart = 135
 abbrev pub markFinish : ℕ
 markFinish = 136
 
+abbrev pub markAnd : ℕ
+markAnd = 137
+
+abbrev pub markOr : ℕ
+markOr = 138
+
 abbrev pub markOpen : ℕ
 markOpen = 40
 
@@ -79,7 +85,9 @@ keywords =
     ∷ sign "start" (Mark markStart)
     ∷ sign "then" (Mark markThen)
     ∷ sign "else" (Mark markElse)
+    ∷ sign "and" (Mark markAnd)
     ∷ sign "if" (Mark markIf)
+    ∷ sign "or" (Mark markOr)
     ∷ []
 
 -- "`** << >> !! -> <= >=` are taken whenever both characters are there."

@@ -17,6 +17,10 @@ pub const MARK_START: u32 = 135;
 
 pub const MARK_FINISH: u32 = 136;
 
+pub const MARK_AND: u32 = 137;
+
+pub const MARK_OR: u32 = 138;
+
 pub const MARK_OPEN: u32 = 40;
 
 pub const MARK_CLOSE: u32 = 41;

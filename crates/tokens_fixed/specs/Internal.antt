@@ -21,6 +21,10 @@ keywordOf signs l = onFront (firstOf signs l) (λ t rest. one (token t) rest) (w
 abbrev pub laterKeywords : List Sign
 laterKeywords = drop 4 keywords
 
+-- those behind START, THEN and ELSE
+abbrev pub lastKeywords : List Sign
+lastKeywords = drop 3 laterKeywords
+
 -- a character twice
 unfoldable pub doubledOf : ℕ → Pair
 doubledOf c =

@@ -1,6 +1,7 @@
-// Tokens that are fixed strings, document 01 and 02, L1: keywords and signs. Comments in quotes are document 01's words.
+// Tokens that are fixed strings, document 01 and 02, L1 and L5: keywords and signs. Comments in quotes are document 01's words.
 use sheet::Operator;
 use source::Token;
+use source::marks::MARK_AND;
 use source::marks::MARK_ARROW;
 use source::marks::MARK_BEGIN;
 use source::marks::MARK_ELSE;
@@ -8,6 +9,7 @@ use source::marks::MARK_END;
 use source::marks::MARK_FINISH;
 use source::marks::MARK_IF;
 use source::marks::MARK_INTEGER;
+use source::marks::MARK_OR;
 use source::marks::MARK_START;
 use source::marks::MARK_THEN;
 use text::read::Place;
@@ -18,7 +20,7 @@ ghost use Prim.Native.Nat.{_<_, _+_};
 ghost use lib.ListN.{length, drop};
 ghost use Rattle.source.specs.Tokens.{keywordAt, signAt};
 ghost use Rattle.tokens_fixed.specs.Answers.{Is};
-ghost use Rattle.tokens_fixed.specs.Internal.{keywordOf, laterKeywords, doubledOf, withEqualOf, pairOf, singleOf};
+ghost use Rattle.tokens_fixed.specs.Internal.{keywordOf, laterKeywords, lastKeywords, doubledOf, withEqualOf, pairOf, singleOf};
 
 // A token and the place of the cell behind it; the place behind a name; or the number of the refusal.
 pub enum One {
@@ -33,7 +35,23 @@ enum Pair {
     Missing,
 }
 
-// The keywords of four letters at most, and START: `laterKeywords` of specs/Internal.antt.
+// AND, IF and OR: `lastKeywords` of specs/Internal.antt.
+fn last_keyword_at(cells: &[u8], at: usize) -> One
+    ensures { λ r. ⌜ Is (now (cells .entry)) at r (keywordOf lastKeywords (drop at (now (cells .entry)))) ⌝ }
+{
+    if let Place::Behind(q) = fixed_at(cells, at, b"and") {
+        return One::Token(Token::Mark(MARK_AND), q);
+    }
+    if let Place::Behind(q) = fixed_at(cells, at, b"if") {
+        return One::Token(Token::Mark(MARK_IF), q);
+    }
+    if let Place::Behind(q) = fixed_at(cells, at, b"or") {
+        return One::Token(Token::Mark(MARK_OR), q);
+    }
+    One::Wrong(5)
+}
+
+// The keywords behind the first four: `laterKeywords` of specs/Internal.antt.
 fn later_keyword_at(cells: &[u8], at: usize) -> One
     ensures { λ r. ⌜ Is (now (cells .entry)) at r (keywordOf laterKeywords (drop at (now (cells .entry)))) ⌝ }
 {
@@ -46,14 +64,11 @@ fn later_keyword_at(cells: &[u8], at: usize) -> One
     if let Place::Behind(q) = fixed_at(cells, at, b"else") {
         return One::Token(Token::Mark(MARK_ELSE), q);
     }
-    if let Place::Behind(q) = fixed_at(cells, at, b"if") {
-        return One::Token(Token::Mark(MARK_IF), q);
-    }
-    One::Wrong(5)
+    last_keyword_at(cells, at)
 }
 
-// "always taking the longest of BEGIN ENDOFPROGRAM INTEGER IF THEN ELSE", and of START and FINISH. Keyword letters are small in
-// cells.
+// "always taking the longest of BEGIN ENDOFPROGRAM INTEGER IF THEN ELSE", of START and FINISH, and of AND and OR. Keyword letters are
+// small in cells.
 pub fn keyword_at(cells: &[u8], at: usize) -> One
     ensures { λ r. ⌜ Is (now (cells .entry)) at r (keywordAt (drop at (now (cells .entry)))) ⌝ }
 {

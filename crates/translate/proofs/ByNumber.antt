@@ -1,6 +1,6 @@
 -- Which orders are jumps and which store, by their numbers: 4 and 11.
-use Prim.Native.Nat.{ℕ, _≤_, _<_}
-use mathlib.Core.Path.{_≡_, refl, sym}
+use Prim.Native.Nat.{ℕ, _≤_}
+use mathlib.Core.Path.{_≡_, refl}
 use native.Mathlib.Omega.{arith}
 use borrow.Author.Tests.{eq-eqb, ne-eqb}
 use lib.Dec.{eqb}
@@ -19,16 +19,16 @@ module _ (a : ℕ) where
   abbrev targetBy : ℕ → Target
   targetBy k = pick (eqb k 4) (To a) Missing
 
-  all-targets : each (λ k. targetOf (orderOf k a)) 0 37 ≡ each targetBy 0 37
+  all-targets : each (λ k. targetOf (orderOf k a)) 0 38 ≡ each targetBy 0 38
   unfolding each orderOf shapes pick
   all-targets = refl
 
-  no-target : (k : ℕ) → 37 ≤ k → targetOf (orderOf k a) ≡ targetBy k
+  no-target : (k : ℕ) → 38 ≤ k → targetOf (orderOf k a) ≡ targetBy k
   unfolding pick
   no-target k h = rw (← no-order k a h, ne-eqb k 4 (λ e. omega (arith, e))) refl
 
   target-told : (k : ℕ) → targetOf (orderOf k a) ≡ targetBy k
-  target-told k = by-less k 37 (λ h. each-at (λ j. targetOf (orderOf j a)) targetBy 37 all-targets k h) (no-target k)
+  target-told k = by-less k 38 (λ h. each-at (λ j. targetOf (orderOf j a)) targetBy 38 all-targets k h) (no-target k)
 
   module _ (k : ℕ) where
     pub jump-target : k ≡ 4 → To a ≡ targetOf (orderOf k a)
@@ -43,16 +43,16 @@ module _ (v w : ℕ) where
   abbrev storedBy : ℕ → ℕ
   storedBy k = pick (eqb k 11) (temporaryOf v w) 0
 
-  all-stored : each (λ k. storedTo v (orderOf k w)) 0 37 ≡ each storedBy 0 37
+  all-stored : each (λ k. storedTo v (orderOf k w)) 0 38 ≡ each storedBy 0 38
   unfolding each orderOf shapes pick
   all-stored = refl
 
-  none-stored : (k : ℕ) → 37 ≤ k → storedTo v (orderOf k w) ≡ storedBy k
+  none-stored : (k : ℕ) → 38 ≤ k → storedTo v (orderOf k w) ≡ storedBy k
   unfolding pick
   none-stored k h = rw (← no-order k w h, ne-eqb k 11 (λ e. omega (arith, e))) refl
 
   stored-told : (k : ℕ) → storedTo v (orderOf k w) ≡ storedBy k
-  stored-told k = by-less k 37 (λ h. each-at (λ j. storedTo v (orderOf j w)) storedBy 37 all-stored k h) (none-stored k)
+  stored-told k = by-less k 38 (λ h. each-at (λ j. storedTo v (orderOf j w)) storedBy 38 all-stored k h) (none-stored k)
 
   module _ (k : ℕ) where
     pub stores : k ≡ 11 → (r : ℕ) → r ≡ temporaryOf v w → r ≡ storedTo v (orderOf k w)

@@ -1,20 +1,20 @@
 -- The operands of a translation are words, whatever the limits.
-use Prim.Native.Nat.{ℕ, suc, _+_, _≤_, _<_, max}
-use mathlib.Core.Path.{_≡_, refl, sym, ap, _∙_}
+use Prim.Native.Nat.{ℕ, _+_, _≤_, _<_}
 use mathlib.Core.List.{List, [], _∷_, _++_}
 use native.Mathlib.Omega.{arith}
 use lib.ListN.{length, length-append}
 use Rattle.order.specs.declared.Order.{Order}
-use Rattle.order.specs.declared.Order.the-variants.{Word, Number, Store, Neg, Not, Jump, Skip, Branch, Send, Stop}
+use Rattle.order.specs.declared.Order.the-variants.{Word, Number, Store, Neg, Not, Jump, Skip, Branch, Cond, Send, Stop}
 use Rattle.order.specs.Order.{operand}
 use Rattle.order.proofs.Arrays.{Narrow, none, more}
 use Rattle.sheet.specs.declared.Field.the-variants.{Else, Start, Finish}
 use Rattle.sheet.specs.Sheet.{Expression, word, constant, negated, inverted, binary, Operand, inWord, itself, workedOut, operand as operandOf}
-use Rattle.sheet.specs.Sheet.{Simple, set, send, goto, Condition, compares, Part, end, plain, when, either, count}
+use Rattle.sheet.specs.Sheet.{Simple, set, send, goto, Condition, compares, joins, Part, end, plain, when, either, count}
 use Rattle.sheet.specs.Formed.{Leads}
-use Rattle.sheet.specs.Orders.{joinedTemporaries, temporaries, simpleTemporaries, comparisonTemporaries}
+use Rattle.sheet.specs.Orders.{joinedTemporaries, temporaries, simpleTemporaries}
 use Rattle.sheet.specs.Condition.{conditionTemporaries}
-use Rattle.sheet.specs.Fields.{expressionFields, simpleFields, conditionFields, partFields}
+use Rattle.sheet.specs.Fields.{expressionFields, simpleFields}
+use Rattle.sheet.specs.Memory.{conditionFields, partFields}
 use Rattle.sheet.specs.Translation.{size, partCode, temporariesOf}
 use Rattle.sheet.specs.Within.{PartFormed}
 use Rattle.sheet.proofs.Each.{Each}
@@ -52,11 +52,13 @@ simple-few (send e) = omega (arith, expression-few e)
 simple-few (goto s) = omega arith
 
 condition-few : (c : Condition) → conditionTemporaries c ≤ length (conditionFields c)
-unfolding conditionTemporaries
+unfolding conditionTemporaries conditionFields
 condition-few (compares r a b) =
     let both = length-append (expressionFields a) (expressionFields b) in
     let few = joined-few (operandOf b) (temporaries a) (temporaries b) _ _ (expression-few a) (expression-few b) (some-fields a) (some-fields b) in
     omega (arith, both, few)
+condition-few (joins w a b) =
+    omega (arith, condition-few a, condition-few b, length-append (conditionFields a) (conditionFields b))
 
 pub part-few : (x : Part) → temporariesOf x ≤ length (partFields x)
 unfolding temporariesOf partFields
@@ -94,6 +96,7 @@ held-narrow v t n a b Not h = omega arith
 held-narrow v t n a b (Jump k) h = let f = h .fits in omega (arith, f)
 held-narrow v t n a b (Skip k) h = let f = h .fits in omega (arith, f)
 held-narrow v t n a b (Branch r k) h = let f = h .fits in omega (arith, f)
+held-narrow v t n a b (Cond k) h = let f = h .fits in omega (arith, f)
 held-narrow v t n a b Send h = omega arith
 held-narrow v t n a b Stop h = omega arith
 

@@ -9,12 +9,11 @@ use native.Mathlib.Numerals.{add-one}
 use lib.ListN.{length, getD, set, take, drop, length-map, length-set}
 use lib.Seq.{sets, drop-cons, take-suc, set-append-seam, getD-append-seam, length-take-le, take-all}
 use Rattle.base.specs.Choice.{pick}
-use Rattle.base.proofs.Cases.{by-less}
 use Rattle.order.specs.declared.Order.{Order}
 use Rattle.order.specs.declared.Order.the-variants.{Jump}
 use Rattle.order.specs.Memory.{orderWord, orderIn, ordersIn}
 use Rattle.sheet.specs.Temporaries.{storedTo, largestStored}
-use Rattle.sheet.specs.Beginnings.{isLast, ofInstruction, beginnings}
+use Rattle.sheet.specs.Beginnings.{inner, isLast, ofInstruction, beginnings}
 use Rattle.translate.specs.declared.Target.{Target}
 use Rattle.translate.specs.declared.Target.the-variants.{To, Missing}
 use Rattle.translate.specs.Internal.{Noted, noted, notedBy, tableFrom, table, targetOf, ledBy, ledWord}
@@ -28,8 +27,8 @@ drop-ended (x ∷ l) zero h = absurd (omega arith)
 drop-ended (x ∷ l) (suc i) h = drop-ended l i (omega arith)
 
 -- what is noted in the end, and so far
-pub record Filling (v : ℕ) (ws l₀ : List ℕ) (i n : ℕ) (here : Bool) (l : List ℕ) : Type 0 where
-  pub ahead : tableFrom v here i (ordersIn (drop i ws)) (noted n l) ≡ table v ws l₀
+pub record Filling (v : ℕ) (ws l₀ : List ℕ) (i n : ℕ) (here : Bool) (k : ℕ) (l : List ℕ) : Type 0 where
+  pub ahead : tableFrom v here k i (ordersIn (drop i ws)) (noted n l) ≡ table v ws l₀
   pub few : n ≤ i
   pub inside : i ≤ length ws
 
@@ -58,64 +57,66 @@ unfolding pick
 note-none here o i n l e = rw e refl
 
 module _ (v : ℕ) (ws l₀ : List ℕ) where
-  pub fill-none : Filling v ws l₀ 0 0 true l₀
+  pub fill-none : Filling v ws l₀ 0 0 true 0 l₀
   fill-none = record { ahead = refl; few = omega arith; inside = omega arith }
 
   pub fill-more :
-      (i n : ℕ) (here : Bool) (l : List ℕ)
-      → Filling v ws l₀ i n here l
+      (i n : ℕ) (here : Bool) (k : ℕ) (l : List ℕ)
+      → Filling v ws l₀ i n here k l
       → i < length ws
       → (o : Order)
       → o ≡ orderIn (getD ws i 0)
       → (m : ℕ) (after : List ℕ)
       → noted m after ≡ notedBy here o i (noted n l)
       → (next : Bool)
-      → next ≡ isLast v o
-      → Filling v ws l₀ (i + 1) m next after
+      → next ≡ isLast v k o
+      → (left : ℕ)
+      → left ≡ inner k o
+      → Filling v ws l₀ (i + 1) m next left after
   unfolding tableFrom count-of
-  fill-more i n here l p inside o is m after e next last = record {
+  fill-more i n here k l p inside o is m after e next last left now = record {
     ahead =
-        rw (add-one i, e, last, is)
-        (sym (ap (λ k. tableFrom v here i (ordersIn k) (noted n l)) (drop-cons ws i 0 inside)) ∙ p .ahead);
-    few = let k = noted-few here o i n l _ refl in let c = ap count-of e in omega (arith, k, c, p .few);
+        rw (add-one i, e, last, now, is)
+        (sym (ap (λ os. tableFrom v here k i (ordersIn os) (noted n l)) (drop-cons ws i 0 inside)) ∙ p .ahead);
+    few = let few = noted-few here o i n l _ refl in let c = ap count-of e in omega (arith, few, c, p .few);
     inside = omega arith;
   }
 
-  pub fill-ends : (i n : ℕ) (here : Bool) (l : List ℕ) → Filling v ws l₀ i n here l → length ws ≤ i → noted n l ≡ table v ws l₀
+  pub fill-ends : (i n : ℕ) (here : Bool) (k : ℕ) (l : List ℕ) → Filling v ws l₀ i n here k l → length ws ≤ i → noted n l ≡ table v ws l₀
   unfolding tableFrom
-  fill-ends i n here l p over = sym (ap (λ k. tableFrom v here i (ordersIn k) (noted n l)) (drop-ended ws i over)) ∙ p .ahead
+  fill-ends i n here k l p over = sym (ap (λ os. tableFrom v here k i (ordersIn os) (noted n l)) (drop-ended ws i over)) ∙ p .ahead
 
 -- it holds the beginnings
-filled : (v : ℕ) (here : Bool) (i : ℕ) (os : List Order) (n : ℕ) (l : List ℕ)
-    → tableFrom v here i os (noted n l) ≡ noted (n + length (beginnings v here i os)) (sets l n (beginnings v here i os))
+filled : (v : ℕ) (here : Bool) (k i : ℕ) (os : List Order) (n : ℕ) (l : List ℕ)
+    → tableFrom v here k i os (noted n l) ≡ noted (n + length (beginnings v here k i os)) (sets l n (beginnings v here k i os))
 unfolding tableFrom beginnings pick
-filled v here i [] n l = ap (λ k. noted k l) (sym (add-zero n))
-filled v here i (o ∷ os) n l =
-    by (pick here (ofInstruction o) false) refl (filled v (isLast v o) (suc i) os (n + 1) (set l n i)) (filled v (isLast v o) (suc i) os n l)
+filled v here k i [] n l = ap (λ m. noted m l) (sym (add-zero n))
+filled v here k i (o ∷ os) n l =
+    by (pick here (ofInstruction o) false) refl (filled v (isLast v k o) (inner k o) (suc i) os (n + 1) (set l n i)) (filled v (isLast v k o) (inner k o) (suc i) os n l)
   where
     bs : List ℕ
-    bs = beginnings v (isLast v o) (suc i) os
+    bs = beginnings v (isLast v k o) (inner k o) (suc i) os
 
     by : (b : Bool) → pick here (ofInstruction o) false ≡ b
-        → tableFrom v (isLast v o) (suc i) os (noted (n + 1) (set l n i)) ≡ noted (n + 1 + length bs) (sets (set l n i) (n + 1) bs)
-        → tableFrom v (isLast v o) (suc i) os (noted n l) ≡ noted (n + length bs) (sets l n bs)
-        → tableFrom v (isLast v o) (suc i) os (notedBy here o i (noted n l))
+        → tableFrom v (isLast v k o) (inner k o) (suc i) os (noted (n + 1) (set l n i)) ≡ noted (n + 1 + length bs) (sets (set l n i) (n + 1) bs)
+        → tableFrom v (isLast v k o) (inner k o) (suc i) os (noted n l) ≡ noted (n + length bs) (sets l n bs)
+        → tableFrom v (isLast v k o) (inner k o) (suc i) os (notedBy here o i (noted n l))
         ≡ noted (n + length (pick (pick here (ofInstruction o) false) (i ∷ bs) bs)) (sets l n (pick (pick here (ofInstruction o) false) (i ∷ bs) bs))
     by true e yes-so no-so =
-        rw e (yes-so ∙ ap₂ noted (omega arith) (ap (λ k. sets (set l n i) k bs) (add-one n)))
+        rw e (yes-so ∙ ap₂ noted (omega arith) (ap (λ m. sets (set l n i) m bs) (add-one n)))
     by false e yes-so no-so = rw e no-so
 
-pub table-holds : (v : ℕ) (ws l : List ℕ) → table v ws l ≡ noted (length (beginnings v true 0 (ordersIn ws))) (sets l 0 (beginnings v true 0 (ordersIn ws)))
-table-holds v ws l = filled v true 0 (ordersIn ws) 0 l ∙ ap (λ k. noted k (sets l 0 (beginnings v true 0 (ordersIn ws)))) (zero-add (length (beginnings v true 0 (ordersIn ws))))
+pub table-holds : (v : ℕ) (ws l : List ℕ) → table v ws l ≡ noted (length (beginnings v true 0 0 (ordersIn ws))) (sets l 0 (beginnings v true 0 0 (ordersIn ws)))
+table-holds v ws l = filled v true 0 0 (ordersIn ws) 0 l ∙ ap (λ k. noted k (sets l 0 (beginnings v true 0 0 (ordersIn ws)))) (zero-add (length (beginnings v true 0 0 (ordersIn ws))))
 
 -- no more begin than there are orders
-pub begun-few : (v : ℕ) (here : Bool) (i : ℕ) (os : List Order) → length (beginnings v here i os) ≤ length os
+pub begun-few : (v : ℕ) (here : Bool) (k i : ℕ) (os : List Order) → length (beginnings v here k i os) ≤ length os
 unfolding beginnings pick
-begun-few v here i [] = omega arith
-begun-few v here i (o ∷ os) = by (pick here (ofInstruction o) false) (begun-few v (isLast v o) (suc i) os)
+begun-few v here k i [] = omega arith
+begun-few v here k i (o ∷ os) = by (pick here (ofInstruction o) false) (begun-few v (isLast v k o) (inner k o) (suc i) os)
   where
-    by : (b : Bool) → length (beginnings v (isLast v o) (suc i) os) ≤ length os
-        → length (pick b (i ∷ beginnings v (isLast v o) (suc i) os) (beginnings v (isLast v o) (suc i) os)) ≤ suc (length os)
+    by : (b : Bool) → length (beginnings v (isLast v k o) (inner k o) (suc i) os) ≤ length os
+        → length (pick b (i ∷ beginnings v (isLast v k o) (inner k o) (suc i) os) (beginnings v (isLast v k o) (inner k o) (suc i) os)) ≤ suc (length os)
     by true h = omega arith
     by false h = omega arith
 

@@ -1,34 +1,35 @@
 -- From the orders that are put to the translation.
-use Prim.Native.Nat.{ℕ, suc, _+_, _*_, _-_, _≤_, _<_}
-use mathlib.Core.Path.{_≡_, refl, sym, ap, ap₂, subst, _∙_}
-use mathlib.Core.Bool.{true}
+use Prim.Native.Nat.{ℕ, suc, _+_, _-_, _≤_, _<_}
+use mathlib.Core.Path.{_≡_, refl, sym, ap, ap₂, _∙_}
+use mathlib.Core.Bool.{Bool, true, false}
 use mathlib.Core.List.{List, [], _∷_, _++_, map, append-nil}
 use native.Mathlib.Omega.{arith}
 use native.Mathlib.Nat.{zero-add}
 use lib.ListN.{length, getD, set, take, drop, length-append, length-map, length-set, take-append-drop}
 use lib.Seq.{sets, sets-eq, length-take-le}
+use Rattle.base.specs.Choice.{pick}
 use Rattle.base.proofs.Cases.{by-less}
 use Rattle.base.proofs.Lists.{take-sets, drop-sets, sets-more}
 use Rattle.order.specs.declared.Operation.{Operation}
 use Rattle.order.specs.declared.Operation.the-variants.{Load}
 use Rattle.order.specs.declared.Order.{Order}
-use Rattle.order.specs.declared.Order.the-variants.{Word, Number, Store, Neg, Not, Jump, Skip, Branch, Send, Stop}
+use Rattle.order.specs.declared.Order.the-variants.{Word, Number, Store, Neg, Not, Jump, Skip, Branch, Cond, Send, Stop}
 use Rattle.order.specs.Order.{operand}
 use Rattle.order.specs.Limits.{mostVariables, mostOrders}
 use Rattle.order.specs.Memory.{orderWord, orderIn, ordersIn}
 use Rattle.order.proofs.Numbers.{order-in}
 use Rattle.order.proofs.Arrays.{Narrow, none, more, orders-in}
+use Rattle.sheet.specs.declared.Joining.the-variants.{And, Or}
 use Rattle.sheet.specs.Sheet.{Expression, word, constant, negated, inverted, binary, Operand, inWord, itself, workedOut, operand as operandOf}
-use Rattle.sheet.specs.Sheet.{Simple, set as setting, send, goto, Condition, compares, Part, end, plain, when, either, count, sheet}
-use Rattle.sheet.specs.Formed.{Leads}
-use Rattle.sheet.specs.Orders.{opposite, temporary, joined, code, simpleCode, simpleSize, comparisonCode}
-use Rattle.sheet.specs.Condition.{asking, askingCode}
+use Rattle.sheet.specs.Sheet.{Simple, set as setting, send, goto, Condition, compares, joins, Part, end, plain, when, either, count, sheet}
+use Rattle.sheet.specs.Orders.{temporary, joined, code, simpleCode, simpleSize, comparisonCode}
+use Rattle.sheet.specs.Condition.{comparisons, leaving, trying, tryCode, asking, askingCode}
 use Rattle.sheet.specs.Translation.{size, starts, firstOrder, partCode, translation, temporariesOf}
 use Rattle.sheet.specs.Within.{PartFormed}
-use Rattle.sheet.specs.Fields.{partFields}
+use Rattle.sheet.specs.Memory.{partFields}
 use Rattle.sheet.specs.Temporaries.{largestStored}
 use Rattle.sheet.specs.Beginnings.{beginnings}
-use Rattle.sheet.proofs.Sizes.{code-length, count-size, count-starts}
+use Rattle.sheet.proofs.Sizes.{code-length, count-size}
 use Rattle.sheet.proofs.Starts.{first-below}
 use Rattle.sheet.proofs.Beginnings.{code-begins}
 use Rattle.sheet.proofs.Temporaries.{temporaries-stored}
@@ -40,8 +41,8 @@ use Rattle.translate_part.specs.Internal.{unled, Parting}
 use Rattle.translate.specs.Answers.{Translates}
 use Rattle.translate.specs.declared.Translated.{Translated}
 use Rattle.translate.specs.declared.Translated.the-variants.{Whole, Over}
-use Rattle.translate.specs.Internal.{Noted, noted, table, targetOf, ledBy, ledWord, ledAll, Finishes}
-use Rattle.translate.proofs.Tables.{count-of, table-holds, begun-few}
+use Rattle.translate.specs.Internal.{noted, table, targetOf, ledBy, ledWord, ledAll, Finishes}
+use Rattle.translate.proofs.Tables.{table-holds, begun-few}
 use Rattle.translate.proofs.Narrowness.{code-narrow}
 
 -- ---- jumps led, order by order
@@ -55,6 +56,7 @@ ledTo to Not = Not
 ledTo to (Jump s) = Jump (to s)
 ledTo to (Skip a) = Skip a
 ledTo to (Branch r a) = Branch r a
+ledTo to (Cond n) = Cond n
 ledTo to Send = Send
 ledTo to Stop = Stop
 
@@ -81,11 +83,22 @@ module _ (to : ℕ → ℕ) where
   led-code v d (inverted e) = led-append (code v d e) _ ∙ ap (λ k. k ++ Not ∷ []) (led-code v d e)
   led-code v d (binary o l r) = led-joined _ v d (operandOf r) (code v d l) (code v (suc d) r) (led-code v d l) (led-code v (suc d) r)
 
+  led-try : (v p : ℕ) (g : Bool) (y n : ℕ) (c : Condition) → map (ledTo to) (tryCode v p g y n c) ≡ tryCode v p g y n c
+  unfolding tryCode
+  led-try v p g y n (compares r a b) =
+      led-append (comparisonCode v a b) _
+      ∙ ap (λ k. k ++ Branch (leaving g r) (pick g n y) ∷ []) (led-joined _ v 0 (operandOf b) (code v 0 a) (code v 1 b) (led-code v 0 a) (led-code v 1 b))
+  led-try v p g y n (joins And a b) =
+      let q = p + trying v a in
+      led-append (tryCode v p true q n a) _ ∙ ap₂ _++_ (led-try v p true q n a) (led-try v q g y n b)
+  led-try v p g y n (joins Or a b) =
+      let q = p + trying v a in
+      led-append (tryCode v p false y q a) _ ∙ ap₂ _++_ (led-try v p false y q a) (led-try v q g y n b)
+
   led-asking : (v p : ℕ) (c : Condition) (d : ℕ) → map (ledTo to) (askingCode v p c d) ≡ askingCode v p c d
   unfolding askingCode
-  led-asking v p (compares r a b) d =
-      led-append (comparisonCode v a b) _
-      ∙ ap (λ k. k ++ Branch (opposite r) d ∷ []) (led-joined _ v 0 (operandOf b) (code v 0 a) (code v 1 b) (led-code v 0 a) (led-code v 1 b))
+  led-asking v p (compares r a b) d = led-try v p true _ d (compares r a b)
+  led-asking v p (joins w a b) d = ap (λ k. Cond (comparisons (joins w a b)) ∷ k) (led-try v (p + 1) true _ d (joins w a b))
 
   led-simple : (v : ℕ) (u : Simple) → map (ledTo to) (simpleCode v (λ s. s) u) ≡ simpleCode v to u
   led-simple v (setting w e) = led-append (code v 0 e) _ ∙ ap (λ k. k ++ Store w ∷ []) (led-code v 0 e)
@@ -122,6 +135,7 @@ led-word firsts last o h = ap (λ q. ledBy firsts last (orderWord o) (targetOf q
     by (Jump s) = refl
     by (Skip a) = refl
     by (Branch r a) = refl
+    by (Cond n) = refl
     by Send = refl
     by Stop = refl
 
@@ -133,13 +147,13 @@ led-words firsts last _ (more {o} {os} h hs) = ap₂ _∷_ (led-word firsts last
 -- ---- the table that is filled
 
 pub table-take : (v : ℕ) (ws l : List ℕ) (n : ℕ) (firsts : List ℕ) → noted n firsts ≡ table v ws l → length ws ≤ length l
-    → take n firsts ≡ beginnings v true 0 (ordersIn ws)
+    → take n firsts ≡ beginnings v true 0 0 (ordersIn ws)
 table-take v ws l n firsts e room =
-    let bs = beginnings v true 0 (ordersIn ws) in
+    let bs = beginnings v true 0 0 (ordersIn ws) in
     let both : noted n firsts ≡ noted (length bs) (sets l 0 bs) = e ∙ table-holds v ws l in
     let count : n ≡ length bs = cc in
     let held : firsts ≡ sets l 0 bs = cc in
-    let few = begun-few v true 0 (ordersIn ws) in
+    let few = begun-few v true 0 0 (ordersIn ws) in
     ap₂ take (count ∙ sym (zero-add (length bs))) held
     ∙ take-sets l 0 bs (omega (arith, few, length-map ws orderIn, room))
 
@@ -163,7 +177,7 @@ module _ (v : ℕ) (x : Part) (formed : PartFormed v (count x) x) (few : v ≤ m
   pub all-led : ledAll v (map orderWord (unled v 0 x ++ Stop ∷ [])) ≡ map orderWord (translation (sheet v x))
   all-led =
       ap₂ (λ firsts last. map (ledWord firsts last) (map orderWord (unled v 0 x ++ Stop ∷ [])))
-      (ap (beginnings v true 0) (orders-in (unled v 0 x ++ Stop ∷ []) put-narrow) ∙ code-begins v (count x) (λ s. s) x formed)
+      (ap (beginnings v true 0 0) (orders-in (unled v 0 x ++ Stop ∷ []) put-narrow) ∙ code-begins v (count x) (λ s. s) x formed)
       (omega (arith, length-map (unled v 0 x ++ Stop ∷ []) orderWord, put-length))
       ∙ led-words (starts v 0 x) (size v x) (unled v 0 x ++ Stop ∷ []) put-narrow
       ∙ ap (map orderWord) (led-append (firstOrder v x) (unled v 0 x) (Stop ∷ []) ∙ ap (λ k. k ++ Stop ∷ []) (led-part (firstOrder v x) v 0 x))

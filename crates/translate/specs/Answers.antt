@@ -7,7 +7,7 @@ use lib.Seq.{sets}
 use Rattle.order.specs.Limits.{mostVariables, mostOrders}
 use Rattle.order.specs.Memory.{orderWord}
 use Rattle.sheet.specs.Sheet.{Part, count, sheet}
-use Rattle.sheet.specs.Fields.{partFields}
+use Rattle.sheet.specs.Memory.{partFields}
 use Rattle.sheet.specs.Translation.{translation, temporariesOf}
 use Rattle.sheet.specs.Within.{PartFormed}
 use Rattle.sheet_field.specs.Memory.{fieldsAt, mostFields}

@@ -6,10 +6,10 @@ use mathlib.Core.List.{List, [], _∷_, map}
 use lib.ListN.{length, getD, set}
 use Rattle.base.specs.Choice.{pick}
 use Rattle.order.specs.declared.Order.{Order}
-use Rattle.order.specs.declared.Order.the-variants.{Word, Number, Store, Neg, Not, Jump, Skip, Branch, Send, Stop}
+use Rattle.order.specs.declared.Order.the-variants.{Word, Number, Store, Neg, Not, Jump, Skip, Branch, Cond, Send, Stop}
 use Rattle.order.specs.Memory.{orderWord, orderIn, ordersIn}
 use Rattle.sheet.specs.Temporaries.{largestStored}
-use Rattle.sheet.specs.Beginnings.{isLast, ofInstruction, beginnings}
+use Rattle.sheet.specs.Beginnings.{inner, isLast, ofInstruction, beginnings}
 use Rattle.translate.specs.declared.Target.{Target}
 use Rattle.translate.specs.declared.Target.the-variants.{To, Missing}
 use Rattle.translate.specs.declared.Translated.{Translated}
@@ -24,12 +24,12 @@ pub data Noted : Type 0 where
 abbrev pub notedBy : Bool → Order → ℕ → Noted → Noted
 notedBy here o i (noted n l) = pick (pick here (ofInstruction o) false) (noted (n + 1) (set l n i)) (noted n l)
 
-unfoldable pub tableFrom : ℕ → Bool → ℕ → List Order → Noted → Noted
-tableFrom v here i [] s = s
-tableFrom v here i (o ∷ os) s = tableFrom v (isLast v o) (suc i) os (notedBy here o i s)
+unfoldable pub tableFrom : ℕ → Bool → ℕ → ℕ → List Order → Noted → Noted
+tableFrom v here k i [] s = s
+tableFrom v here k i (o ∷ os) s = tableFrom v (isLast v k o) (inner k o) (suc i) os (notedBy here o i s)
 
 abbrev pub table : ℕ → List ℕ → List ℕ → Noted
-table v ws l = tableFrom v true 0 (ordersIn ws) (noted 0 l)
+table v ws l = tableFrom v true 0 0 (ordersIn ws) (noted 0 l)
 
 -- ---- jumps led
 
@@ -42,6 +42,7 @@ targetOf Not = Missing
 targetOf (Jump s) = To s
 targetOf (Skip a) = Missing
 targetOf (Branch r a) = Missing
+targetOf (Cond n) = Missing
 targetOf Send = Missing
 targetOf Stop = Missing
 
@@ -54,7 +55,7 @@ abbrev pub ledWord : List ℕ → ℕ → ℕ → ℕ
 ledWord firsts last w = ledBy firsts last w (targetOf (orderIn w))
 
 abbrev pub ledAll : ℕ → List ℕ → List ℕ
-ledAll v ws = map (ledWord (beginnings v true 0 (ordersIn ws)) (length ws - 1)) ws
+ledAll v ws = map (ledWord (beginnings v true 0 0 (ordersIn ws)) (length ws - 1)) ws
 
 pub record Finishes (v : ℕ) (ws : List ℕ) (r : Translated) (after : List ℕ) : Type 0 where
   pub led : after ≡ ledAll v ws

@@ -1,4 +1,4 @@
-// The translation of a sheet, document 01 ("Translation"): from its fields to its orders.
+// The translation of a sheet, document 01 ("Translation") and 02, L5: from its fields to its orders.
 use base::larger;
 use base::put_word;
 use order::MOST_ORDERS;
@@ -14,7 +14,7 @@ ghost use lib.ListN.{length, getD, set, take};
 ghost use Rattle.order.specs.Limits.{mostVariables, mostOrders};
 ghost use Rattle.order.specs.Memory.{orderIn, ordersIn};
 ghost use Rattle.sheet.specs.Temporaries.{storedTo, largestStored};
-ghost use Rattle.sheet.specs.Beginnings.{isLast, ofInstruction};
+ghost use Rattle.sheet.specs.Beginnings.{inner, isLast, ofInstruction};
 ghost use Rattle.translate.specs.Internal.{targetOf, ledWord, noted, notedBy, table, Finishes};
 ghost use Rattle.translate.specs.Answers.{Translates};
 
@@ -30,10 +30,39 @@ enum Target {
     Missing,
 }
 
-// Whether an instruction begins behind an order.
-fn is_last(o: Order, v: u32) -> bool
+// A number less one, where it is not 0.
+fn one_less(n: u32) -> u32
+    ensures { λ r. ⌜ r ≡ n - 1 ⌝ }
+{
+    if n == 0 {
+        return 0;
+    }
+    n - 1
+}
+
+// How many branches are yet to come behind an order that do not end their IF, where k were.
+fn inner_behind(k: u32, o: Order) -> u32
+    ensures { λ r. ⌜ r ≡ inner k o ⌝ }
+{
+    match o {
+        Order::Word(_, _) => k,
+        Order::Number(_, _) => k,
+        Order::Store(_) => k,
+        Order::Neg => k,
+        Order::Not => k,
+        Order::Jump(_) => k,
+        Order::Skip(_) => k,
+        Order::Branch(_, _) => one_less(k),
+        Order::Cond(n) => one_less(n),
+        Order::Send => k,
+        Order::Stop => k,
+    }
+}
+
+// Whether an instruction begins behind an order, where k branches are yet to come that do not end their IF.
+fn is_last(o: Order, v: u32, k: u32) -> bool
     requires { ⌜ v ≤ mostVariables ⌝ }
-    ensures { λ r. ⌜ r ≡ isLast v o ⌝ }
+    ensures { λ r. ⌜ r ≡ isLast v k o ⌝ }
 {
     match o {
         Order::Word(_, _) => false,
@@ -43,7 +72,8 @@ fn is_last(o: Order, v: u32) -> bool
         Order::Not => false,
         Order::Jump(_) => true,
         Order::Skip(_) => true,
-        Order::Branch(_, _) => true,
+        Order::Branch(_, _) => k == 0,
+        Order::Cond(_) => false,
         Order::Send => true,
         Order::Stop => false,
     }
@@ -62,6 +92,7 @@ fn of_instruction(o: Order) -> bool
         Order::Jump(_) => true,
         Order::Skip(_) => false,
         Order::Branch(_, _) => true,
+        Order::Cond(_) => true,
         Order::Send => true,
         Order::Stop => false,
     }
@@ -90,30 +121,22 @@ fn note_firsts(orders: &[u64], v: u32, firsts: &mut [u32]) -> usize
     let mut i: usize = 0;
     let mut n: usize = 0;
     let mut here = true;
+    let mut k: u32 = 0;
     while i < orders.len() {
         let o = order_in(orders[i]);
         n = note(firsts, n, i as u32, here, o);
-        here = is_last(o, v);
+        here = is_last(o, v, k);
+        k = inner_behind(k, o);
         i += 1;
     }
     n
-}
-
-// The number from 0 of what is number s from 1.
-fn from_zero(s: u32) -> usize
-    ensures { λ r. ⌜ r ≡ s - 1 ⌝ }
-{
-    if s == 0 {
-        return 0;
-    }
-    (s - 1) as usize
 }
 
 // The first order of instruction s, of n that are noted; `last` for one past them.
 fn first_of(firsts: &[u32], n: usize, last: u32, s: u32) -> u32
     ensures { λ r. ⌜ r ≡ getD (take n (now (firsts .entry))) (s - 1) last ⌝ }
 {
-    let k = from_zero(s);
+    let k = one_less(s) as usize;
     if k < n {
         if k < firsts.len() {
             return firsts[k];

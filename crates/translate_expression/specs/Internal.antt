@@ -11,7 +11,7 @@ use Rattle.order.specs.declared.Order.{Order}
 use Rattle.order.specs.declared.Order.the-variants.{Word, Number, Store, Neg, Not}
 use Rattle.sheet.specs.declared.Field.{Field}
 use Rattle.sheet.specs.declared.Field.the-variants.{Else, Start, Finish, If, Send as Sent, Neg as Negated, Not as Inverted}
-use Rattle.sheet.specs.declared.Field.the-variants.{Binary as Between, Compare, Word as InWord, Constant as Itself, Set, Goto as Gone}
+use Rattle.sheet.specs.declared.Field.the-variants.{Binary as Between, Compare, Word as InWord, Constant as Itself, Set, Goto as Gone, Run as Joined}
 use Rattle.sheet.specs.Sheet.{Expression, operand}
 use Rattle.sheet.specs.Fields.{expressionFields}
 use Rattle.sheet.specs.Orders.{operation, temporary, code, joined}
@@ -47,6 +47,7 @@ nodeOf (InWord w) = Plain (OnWord w)
 nodeOf (Itself n) = Plain (OnConstant n)
 nodeOf (Set w) = Missing
 nodeOf (Gone s) = Missing
+nodeOf (Joined w n) = Missing
 
 abbrev pub firstNode : List Field → Node
 firstNode [] = Missing

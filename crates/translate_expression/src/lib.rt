@@ -65,6 +65,7 @@ fn node_of(f: Field) -> Node
         Field::Constant(n) => Node::Plain(Operand::Constant(n)),
         Field::Set(_) => Node::Missing,
         Field::Goto(_) => Node::Missing,
+        Field::Run(_, _) => Node::Missing,
     }
 }
 

@@ -1,254 +1,185 @@
--- The orders of an IF: its comparison, the branch and the SKIP, which are told last, and its parts.
+-- The orders of an IF: its parts behind room for what it asks, then that.
 use Prim.Native.Nat.{ℕ, suc, _+_, _≤_, _<_}
-use mathlib.Core.Path.{_≡_, refl, sym, ap, ap₂, subst, _∙_}
+use mathlib.Core.Path.{_≡_, refl, sym, ap, ap₂, _∙_}
 use mathlib.Core.Bool.{Bool, true, false}
-use mathlib.Core.List.{List, [], _∷_, _++_, append-assoc, append-nil}
+use mathlib.Core.List.{List, [], _∷_, _++_, append-nil}
 use native.Mathlib.Omega.{arith}
-use lib.ListN.{length, getD, set, length-append}
-use Rattle.word.specs.declared.Relation.{Relation}
+use lib.ListN.{length, length-append}
 use Rattle.order.specs.declared.Order.{Order}
-use Rattle.order.specs.declared.Order.the-variants.{Skip, Branch, Stop}
-use Rattle.order.specs.Memory.{orderWord}
+use Rattle.order.specs.declared.Order.the-variants.{Skip}
 use Rattle.sheet.specs.declared.Field.{Field}
-use Rattle.sheet.specs.declared.Field.the-variants.{Else, Start, Finish, Compare}
-use Rattle.sheet.specs.Sheet.{Expression, Condition, compares, Part, end, when, either}
-use Rattle.sheet.specs.Fields.{expressionFields, conditionFields, partFields}
-use Rattle.sheet.specs.Orders.{temporary, comparisonCode, opposite}
+use Rattle.sheet.specs.declared.Field.the-variants.{Else, Start, Finish}
+use Rattle.sheet.specs.Sheet.{Condition, Part, end, when, either}
+use Rattle.sheet.specs.Memory.{conditionFields, partFields}
+use Rattle.sheet.specs.Orders.{temporary}
 use Rattle.sheet.specs.Condition.{asking, askingCode}
 use Rattle.sheet.specs.Translation.{size, partCode}
-use Rattle.sheet.proofs.Sizes.{code-length}
-use Rattle.sheet_field.specs.Memory.{fieldIn, fieldsAt}
+use Rattle.sheet.proofs.Sizes.{asking-length, code-length}
+use Rattle.sheet_field.specs.Memory.{fieldsAt}
 use Rattle.translate_expression.specs.declared.Spot.{Spot}
-use Rattle.translate_expression.specs.Internal.{behind, Puts, Done, Comparing}
+use Rattle.translate_expression.specs.Internal.{behind, Puts, Done}
 use Rattle.translate_expression.proofs.Turns.{puts-more}
-use Rattle.translate_part.specs.Internal.{firstOpening, isElse, relationOf, Past, unled, Small, Parting, Grouping, Choosing}
-use Rattle.translate_part.proofs.Patches.{puts-as, puts-patched}
-use Rattle.translate_part.proofs.Looking.{not-longer, past-fields, first-is}
-use Rattle.translate_part.proofs.Parts.{small-kept}
+use Rattle.translate_size.specs.declared.Asked.{Asked}
+use Rattle.translate_size.specs.Answers.{capped}
+use Rattle.translate_size.specs.Internal.{Asking as Sized}
+use Rattle.translate_condition.specs.Internal.{Small, Asking}
+use Rattle.translate_condition.proofs.Tries.{puts-as, puts-none, small-kept}
+use Rattle.translate_part.specs.declared.Closed.{Closed}
+use Rattle.translate_part.specs.Internal.{firstOpening, isElse, Past, Further, unled, Parting, Closing, Choosing}
+use Rattle.translate_part.proofs.Rooms.{further-all, puts-before}
+use Rattle.translate_part.proofs.Looking.{past-fields}
 
--- ---- a part behind a mark, and behind an order that is told later
+impossible : {P : Type 0} (a : Bool) → a ≡ true → a ≡ false → P
+impossible a e f = let z : _≡_ {A = ℕ} 0 1 = cc in absurd (omega arith)
 
-pub group-put :
-    (fs : List ℕ) (at word i : ℕ) (out : List ℕ) (j : ℕ) (m : List ℕ)
-    → Puts (Stop ∷ []) i out j m
-    → (k : ℕ)
-    → Past (length fs) at k
-    → (r : Spot) (after : List ℕ)
-    → Parting fs k word j m r after
-    → Grouping fs at word i out r after
-group-put fs at word i out j m first k past r after p = record {
-  on = omega (arith, past .on, p .on);
-  whole = λ v f x l w h stops small.
-      let done = p .whole v x l w (past-fields fs past ∙ ap behind h) stops (small-kept fs word first small) in
-      record {
-        rest = done .rest;
-        put =
-            puts-as
-            (ap suc (code-length v (λ s. s) j x ∙ sym (code-length v (λ s. s) (i + 1) x)))
-            (λ g. ap (λ k. Stop ∷ unled v k x) (first .place (omega (arith, g))))
-            (puts-more first (done .put));
-      };
-}
+-- ---- behind the first part
 
--- ---- what an IF asks, its first part, and the branch before it, which is told later
+module _ (fs : List ℕ) (word : ℕ) (x : Spot) (out : List ℕ) where
+  pub none-closed :
+      isElse (fieldsAt (x .at) fs) ≡ false
+      → (n : ℕ)
+      → Past (length fs) (x .at) n
+      → (d : ℕ)
+      → (x .i + 0 < 4294967296 → d ≡ x .i + 0)
+      → Closing fs word x out (record { at = n; i = x .i; no = d }) out
+  none-closed none n beyond d leads = record {
+    on = beyond .on;
+    one = λ l h small. (
+      record { rest = past-fields fs beyond ∙ ap behind h; put = puts-none (x .i) out },
+      λ g. leads (omega (arith, small .orders)) ∙ omega arith,
+    );
+    two = λ v y l w h small. impossible _ (ap isElse h) none;
+  }
 
-module _ (fs : List ℕ) (at word i : ℕ) (out : List ℕ) (k : ℕ) (past : Past (length fs) at k) (c : Spot) (m₁ : List ℕ)
-    (compared : Comparing fs k word i out c m₁) (x : Spot) (m₂ : List ℕ) (first : Grouping fs (c .at) word (c .i) m₁ x m₂) where
-  pub if-on : at ≤ x .at
-  if-on = omega (arith, past .on, compared .on, first .on)
-
-  record Begun (v : ℕ) (a b : Expression) (p : Part) (l : List Field) : Type 0 where
-    rest : fieldsAt (x .at) fs ≡ l
-    there : i + length (comparisonCode v a b) ≤ length out → c .i ≡ i + length (comparisonCode v a b)
-    put : Puts (comparisonCode v a b ++ Stop ∷ unled v (c .i + 1) p) i out (x .i) m₂
-
-  begun :
-      (v : ℕ) (r : Relation) (a b : Expression) (p : Part) (l : List Field)
-      → word ≡ temporary v 0
-      → fieldsAt at fs ≡ conditionFields (compares r a b) ++ (Start ∷ (partFields p ++ l))
-      → firstOpening l ≡ firstOpening []
-      → Small fs word out
-      → Begun v a b p l
-  begun v r a b p l w h stops small =
-      let here = past-fields fs past ∙ ap behind h ∙ append-assoc (expressionFields a) (expressionFields b) (Start ∷ (partFields p ++ l)) in
-      let few = not-longer fs k (expressionFields a ++ expressionFields b) (Start ∷ (partFields p ++ l)) (past-fields fs past ∙ ap behind h) in
-      let one = compared .whole v 0 a b (Start ∷ (partFields p ++ l)) w here (omega (arith, small .fields, few, length-append (expressionFields a) (expressionFields b))) in
-      let two = first .whole v Start p l w (one .rest) stops (small-kept fs word (one .put) small) in
-      record { rest = two .rest; there = one .put .place; put = puts-more (one .put) (two .put) }
-
-  -- the relation
-  pub related : (r : Relation) (l : List Field) (away : Relation) → fieldsAt at fs ≡ Compare r ∷ l
-      → (q : Relation) → q ≡ relationOf (fieldIn (getD fs at 0)) → away ≡ opposite q → away ≡ opposite r
-  related r l away h q known e = e ∙ ap opposite (known ∙ ap relationOf (first-is fs at (Compare r) l h))
-
-  impossible : {P : Type 0} (a : Bool) → a ≡ true → a ≡ false → P
-  impossible a e f = let z : _≡_ {A = ℕ} 0 1 = cc in absurd (omega arith)
-
-  -- the branch is told
-  module _ (away : Relation) (q : Relation) (asked : q ≡ relationOf (fieldIn (getD fs at 0))) (turned : away ≡ opposite q) where
-    -- without a second part it leads behind the first
-    one-part :
-        (ad : ℕ)
-        → (x .i < 4294967296 → ad ≡ x .i)
-        → (after : List ℕ)
-        → after ≡ set m₂ (c .i) (orderWord (Branch away ad))
-        → (v : ℕ) (r : Relation) (a b : Expression) (p : Part) (l : List Field)
+  module _ (some : isElse (fieldsAt (x .at) fs) ≡ true) (j : ℕ) (far : Further (length out) (x .i) 1 j) (k : ℕ)
+      (past : Past (length fs) (x .at) k) (y : Spot) (m : List ℕ) (second : Parting fs k word j out y m) (to : ℕ)
+      (found : y .i + 0 < 4294967296 → to ≡ y .i + 0) (q : ℕ) (after : List ℕ) (skipped : Puts (Skip to ∷ []) (x .i) m q after) (n : ℕ)
+      (beyond : Past (length fs) (y .at) n) (d : ℕ) (leads : x .i + 1 < 4294967296 → d ≡ x .i + 1) where
+    second-put :
+        (v : ℕ) (z : Part) (l : List Field)
         → word ≡ temporary v 0
-        → fieldsAt at fs ≡ conditionFields (compares r a b) ++ (Start ∷ (partFields p ++ (Finish ∷ l)))
+        → fieldsAt (x .at) fs ≡ Else ∷ (partFields z ++ (Finish ∷ l))
         → Small fs word out
-        → Puts (unled v i (when (compares r a b) p end)) i out (x .i) after
-    unfolding partCode size asking askingCode
-    one-part ad known after e v r a b p l w h small =
-        let it = begun v r a b p (Finish ∷ l) w h refl small in
-        let cmp = comparisonCode v a b in
-        let many : length (cmp ++ Branch away ad ∷ unled v (c .i + 1) p) ≡ length cmp + 1 + size v p =
-        length-append cmp (Branch away ad ∷ unled v (c .i + 1) p) ∙ omega (arith, code-length v (λ s. s) (c .i + 1) p) in
-        let before : length (cmp ++ Stop ∷ unled v (c .i + 1) p) ≡ length cmp + 1 + size v p =
-        length-append cmp (Stop ∷ unled v (c .i + 1) p) ∙ omega (arith, code-length v (λ s. s) (c .i + 1) p) in
-        let patched = puts-patched cmp Stop (Branch away ad) (unled v (c .i + 1) p) (it .put) (λ g. it .there (omega (arith, g, before))) e in
-        puts-as (many ∙ omega arith ∙ sym (code-length v (λ s. s) i (when (compares r a b) p end)))
-        (λ g.
-        let place = it .there (omega (arith, g, many)) in
-        let end-at = patched .place g in
-        let d : ad ≡ i + (length cmp + 1) + size v p = known (omega (arith, g, end-at, small .orders)) ∙ omega (arith, end-at, many) in
-        let u : c .i + 1 ≡ i + (length cmp + 1) = omega (arith, place) in
-        rw (d, u, related r _ away h q asked turned)
-        (ap (λ k. cmp ++ Branch (opposite r) (i + (length cmp + 1) + size v p) ∷ k) (sym (append-nil (unled v (i + (length cmp + 1)) p)))
-        ∙ sym (append-assoc cmp (Branch (opposite r) (i + (length cmp + 1) + size v p) ∷ []) (unled v (i + (length cmp + 1)) p ++ []))))
-        patched
-
-    pub one-chosen :
-        isElse (fieldsAt (x .at) fs) ≡ false
-        → (ad : ℕ)
-        → (x .i < 4294967296 → ad ≡ x .i)
-        → (after : List ℕ)
-        → after ≡ set m₂ (c .i) (orderWord (Branch away ad))
-        → (n : ℕ)
-        → Past (length fs) (x .at) n
-        → Choosing fs at word i out (record { at = n; i = x .i }) after
-    one-chosen none ad known after e n beyond = record {
-      on = omega (arith, if-on, beyond .on);
-      one = λ v t p l w h small. chosen v t p l w h small;
-      two = λ v t p y l w h small. other v t p y l w h small;
-    }
-      where
-        chosen :
-            (v : ℕ) (t : Condition) (p : Part) (l : List Field)
-            → word ≡ temporary v 0
-            → fieldsAt at fs ≡ conditionFields t ++ (Start ∷ (partFields p ++ (Finish ∷ l)))
-            → Small fs word out
-            → Done fs l (unled v i (when t p end)) i out (record { at = n; i = x .i }) after
-        chosen v (compares r a b) p l w h small = record {
-          rest = past-fields fs beyond ∙ ap behind (begun v r a b p (Finish ∷ l) w h refl small .rest);
-          put = one-part ad known after e v r a b p l w h small;
+        → Done fs l (Skip (x .i + 1 + size v z) ∷ unled v (x .i + 1) z) (x .i) out (record { at = n; i = y .i }) after
+    second-put v z l w h small =
+        let part = second .whole v z (Finish ∷ l) w (past-fields fs past ∙ ap behind h) refl small in
+        let all : Puts (Skip to ∷ unled v j z) (x .i) out (y .i) after = puts-before far (part .put) skipped in
+        let many = code-length v (λ s. s) j z in
+        record {
+          rest = past-fields fs beyond ∙ ap behind (part .rest);
+          put =
+              puts-as (ap suc (many ∙ sym (code-length v (λ s. s) (x .i + 1) z)))
+              (λ g.
+              let from : j ≡ x .i + 1 = far .room (omega (arith, g)) in
+              let end-at : y .i ≡ x .i + 1 + size v z = all .place g ∙ omega (arith, many) in
+              let over : to ≡ x .i + 1 + size v z = found (omega (arith, g, many, end-at, small .orders)) ∙ omega (arith, end-at) in
+              ap₂ (λ e b. Skip e ∷ unled v b z) over from)
+              all;
         }
 
-        other :
-            (v : ℕ) (t : Condition) (p y : Part) (l : List Field)
-            → word ≡ temporary v 0
-            → fieldsAt at fs ≡ conditionFields t ++ (Start ∷ (partFields p ++ (Else ∷ (partFields y ++ (Finish ∷ l)))))
-            → Small fs word out
-            → Done fs l (unled v i (either t p y end)) i out (record { at = n; i = x .i }) after
-        other v (compares r a b) p y l w h small =
-            impossible _ (ap isElse (begun v r a b p (Else ∷ (partFields y ++ (Finish ∷ l))) w h refl small .rest)) none
+    pub second-closed : Closing fs word x out (record { at = n; i = y .i; no = d }) after
+    second-closed = record {
+      on = omega (arith, past .on, second .on, beyond .on);
+      one = λ l h small. impossible _ some (ap isElse h);
+      two = λ v z l w h small. (second-put v z l w h small, λ g. leads (omega (arith, g, small .orders)));
+    }
 
-    -- with a second part it leads behind the SKIP, and the SKIP behind the second part
-    module _ (y : Spot) (m₃ : List ℕ) (second : Grouping fs (x .at) word (x .i) m₂ y m₃) where
-      two-parts :
-          (ad : ℕ)
-          → (x .i + 1 < 4294967296 → ad ≡ x .i + 1)
-          → (m₄ : List ℕ)
-          → m₄ ≡ set m₃ (c .i) (orderWord (Branch away ad))
-          → (sk : ℕ)
-          → (y .i < 4294967296 → sk ≡ y .i)
-          → (after : List ℕ)
-          → after ≡ set m₄ (x .i) (orderWord (Skip sk))
-          → (v : ℕ) (r : Relation) (a b : Expression) (p z : Part) (l : List Field)
-          → word ≡ temporary v 0
-          → fieldsAt at fs ≡ conditionFields (compares r a b) ++ (Start ∷ (partFields p ++ (Else ∷ (partFields z ++ (Finish ∷ l)))))
-          → Small fs word out
-          → Done fs (Finish ∷ l) (unled v i (either (compares r a b) p z end)) i out y after
-      unfolding partCode size asking askingCode
-      two-parts ad known m₄ e sk found after f v r a b p z l w h small =
-          let it = begun v r a b p (Else ∷ (partFields z ++ (Finish ∷ l))) w h refl small in
-          let sec = second .whole v Else z (Finish ∷ l) w (it .rest) refl (small-kept fs word (it .put) small) in
-          let cmp = comparisonCode v a b in
-          let us = unled v (c .i + 1) p in
-          let vs = unled v (x .i + 1) z in
-          let us-many : length us ≡ size v p = code-length v (λ s. s) (c .i + 1) p in
-          let vs-many : length vs ≡ size v z = code-length v (λ s. s) (x .i + 1) z in
-          let both = length-append us (Stop ∷ vs) in
-          let whole = length-append cmp (Stop ∷ (us ++ Stop ∷ vs)) in
-          let first-two = length-append cmp (Branch away ad ∷ us) in
-          let all-two = length-append cmp (Branch away ad ∷ (us ++ Stop ∷ vs)) in
-          let last-many = length-append (cmp ++ Branch away ad ∷ us) (Skip sk ∷ vs) in
-          let all : Puts (cmp ++ Stop ∷ (us ++ Stop ∷ vs)) i out (y .i) m₃ =
-          subst (λ os. Puts os i out (y .i) m₃) (append-assoc cmp (Stop ∷ us) (Stop ∷ vs)) (puts-more (it .put) (sec .put)) in
-          let one : Puts ((cmp ++ Branch away ad ∷ us) ++ Stop ∷ vs) i out (y .i) m₄ =
-          subst (λ os. Puts os i out (y .i) m₄) (sym (append-assoc cmp (Branch away ad ∷ us) (Stop ∷ vs)))
-          (puts-patched cmp Stop (Branch away ad) (us ++ Stop ∷ vs) all (λ g. it .there (omega (arith, g, whole))) e) in
-          let two : Puts ((cmp ++ Branch away ad ∷ us) ++ Skip sk ∷ vs) i out (y .i) after =
-          puts-patched (cmp ++ Branch away ad ∷ us) Stop (Skip sk) vs one
-          (λ g. it .put .place (omega (arith, g, length-append (cmp ++ Branch away ad ∷ us) (Stop ∷ vs), first-two, length-append cmp (Stop ∷ us)))
-          ∙ omega (arith, first-two, length-append cmp (Stop ∷ us))) f in
-          record {
-            rest = sec .rest;
-            put =
-                puts-as
-                (last-many ∙ omega (arith, first-two, us-many, vs-many) ∙ sym (code-length v (λ s. s) i (either (compares r a b) p z end)))
-                (λ g.
-                let place = it .there (omega (arith, g, last-many, first-two)) in
-                let middle : x .i ≡ i + (length cmp + 1) + size v p =
-                it .put .place (omega (arith, g, last-many, first-two, length-append cmp (Stop ∷ us))) ∙ omega (arith, length-append cmp (Stop ∷ us), us-many) in
-                let end-at : y .i ≡ i + (length cmp + 1) + size v p + 1 + size v z = two .place g ∙ omega (arith, last-many, first-two, us-many, vs-many) in
-                let under : y .i ≤ length out = omega (arith, g, two .place g) in
-                let d : ad ≡ i + (length cmp + 1) + size v p + 1 = known (omega (arith, middle, end-at, under, small .orders)) ∙ omega (arith, middle) in
-                let k : sk ≡ i + (length cmp + 1) + size v p + 1 + size v z = found (omega (arith, under, small .orders)) ∙ end-at in
-                let u : c .i + 1 ≡ i + (length cmp + 1) = omega (arith, place) in
-                let n : x .i + 1 ≡ i + (length cmp + 1) + size v p + 1 = omega (arith, middle) in
-                let to = related r _ away h q asked turned in
-                ap₂ (λ o l. (cmp ++ o ∷ l) ++ Skip sk ∷ vs) (ap₂ (λ s d. Branch s d) to d) (ap (λ k. unled v k p) u)
-                ∙ ap₂ (λ k l. (cmp ++ Branch (opposite r) (i + (length cmp + 1) + size v p + 1) ∷ unled v (i + (length cmp + 1)) p) ++ Skip k ∷ l) k
-                (ap (λ k. unled v k z) n ∙ sym (append-nil (unled v (i + (length cmp + 1) + size v p + 1) z)))
-                ∙ append-assoc cmp (Branch (opposite r) (i + (length cmp + 1) + size v p + 1) ∷ unled v (i + (length cmp + 1)) p) _
-                ∙ sym (append-assoc cmp (Branch (opposite r) (i + (length cmp + 1) + size v p + 1) ∷ []) _))
-                two;
-          }
+-- ---- the whole
 
-      pub two-chosen :
-          isElse (fieldsAt (x .at) fs) ≡ true
-          → (ad : ℕ)
-          → (x .i + 1 < 4294967296 → ad ≡ x .i + 1)
-          → (m₄ : List ℕ)
-          → m₄ ≡ set m₃ (c .i) (orderWord (Branch away ad))
-          → (sk : ℕ)
-          → (y .i < 4294967296 → sk ≡ y .i)
-          → (after : List ℕ)
-          → after ≡ set m₄ (x .i) (orderWord (Skip sk))
-          → (n : ℕ)
-          → Past (length fs) (y .at) n
-          → Choosing fs at word i out (record { at = n; i = y .i }) after
-      two-chosen some ad known m₄ e sk found after f n beyond = record {
-        on = omega (arith, if-on, second .on, beyond .on);
-        one = λ v t p l w h small. chosen v t p l w h small;
-        two = λ v t p z l w h small. other v t p z l w h small;
+module _ (fs : List ℕ) (at word i : ℕ) (out : List ℕ) (c : Asked) (sized : Sized fs at c) (j : ℕ) (far : Further (length out) i (c .orders) j)
+    (k : ℕ) (past : Past (length fs) (c .at) k) (x : Spot) (m₁ : List ℕ) (first : Parting fs k word j out x m₁) (r : Closed) (m₂ : List ℕ)
+    (closing : Closing fs word x m₁ r m₂) (yes-at : ℕ) (goes : i + c .orders < 4294967296 → yes-at ≡ i + c .orders) (q : ℕ) (after : List ℕ)
+    (asked : Asking fs at word i (c .comparisons) yes-at (r .no) m₂ q after) where
+  module _ (v : ℕ) (t : Condition) (p : Part) (l : List Field) (w : word ≡ temporary v 0)
+      (h : fieldsAt at fs ≡ conditionFields t ++ (Start ∷ (partFields p ++ l))) (stops : firstOpening l ≡ firstOpening []) (small : Small fs word out)
+    where
+      its-size : c .orders ≡ capped (asking v t)
+      its-size = sized .whole v t (Start ∷ (partFields p ++ l)) h .its-orders
+
+      -- the first part begins behind what the IF asks
+      from : i + asking v t ≤ length out → j ≡ i + asking v t
+      from g = far .room (omega (arith, its-size)) ∙ omega (arith, its-size, small .orders)
+
+      part-put : Done fs l (unled v j p) j out x m₁
+      part-put =
+          first .whole v p l w (past-fields fs past ∙ ap behind (sized .whole v t (Start ∷ (partFields p ++ l)) h .rest)) stops small
+
+      middle : i + asking v t + size v p ≤ length out → x .i ≡ i + asking v t + size v p
+      middle g =
+          let b = from (omega arith) in
+          let many = code-length v (λ s. s) j p in
+          part-put .put .place (omega (arith, g, b, many)) ∙ omega (arith, b, many)
+
+      -- all of it, with the orders os behind the first part
+      all-put : (os : List Order) → Puts os (x .i) m₁ (r .i) m₂ → Puts (askingCode v i t (r .no) ++ (unled v j p ++ os)) i out (r .i) after
+      all-put os closed =
+          let parts = puts-more (part-put .put) closed in
+          let kept = parts .kept in
+          let done = sized .whole v t (Start ∷ (partFields p ++ l)) h in
+          puts-before
+          (further-all (length (askingCode v i t (r .no))) (its-size ∙ sym (ap capped (asking-length v i t (r .no)))) (small .orders) far)
+          parts
+          (asked v t (Start ∷ (partFields p ++ l)) w h (record { fields = small .fields; orders = omega (arith, small .orders, kept) })
+          (done .its-comparisons)
+          (λ g. goes (omega (arith, g, kept, small .orders, its-size)) ∙ omega (arith, g, kept, small .orders, its-size)))
+
+      all-many : (os : List Order) → length (askingCode v i t (r .no) ++ (unled v j p ++ os)) ≡ asking v t + size v p + length os
+      all-many os =
+          length-append (askingCode v i t (r .no)) (unled v j p ++ os)
+          ∙ omega (arith, asking-length v i t (r .no), length-append (unled v j p) os, code-length v (λ s. s) j p)
+
+  one-put :
+      (v : ℕ) (t : Condition) (p : Part) (l : List Field)
+      → word ≡ temporary v 0
+      → fieldsAt at fs ≡ conditionFields t ++ (Start ∷ (partFields p ++ (Finish ∷ l)))
+      → Small fs word out
+      → Done fs l (unled v i (when t p end)) i out (record { at = r .at; i = r .i }) after
+  unfolding partCode size
+  one-put v t p l w h small =
+      let part = part-put v t p (Finish ∷ l) w h refl small in
+      let closed = closing .one l (part .rest) (small-kept fs word (part .put) small) in
+      let many = all-many v t p (Finish ∷ l) w h refl small [] in
+      record {
+        rest = closed .0 .rest;
+        put =
+            puts-as (many ∙ omega arith ∙ sym (code-length v (λ s. s) i (when t p end)))
+            (λ g.
+            let b = from v t p (Finish ∷ l) w h refl small (omega (arith, g, many)) in
+            let e = middle v t p (Finish ∷ l) w h refl small (omega (arith, g, many)) in
+            let to : r .no ≡ i + asking v t + size v p = closed .1 (omega (arith, g, many, e, part .put .kept)) ∙ e in
+            ap₂ (λ d y. askingCode v i t d ++ (unled v y p ++ [])) to b)
+            (all-put v t p (Finish ∷ l) w h refl small [] (closed .0 .put));
       }
-        where
-          chosen :
-              (v : ℕ) (t : Condition) (p : Part) (l : List Field)
-              → word ≡ temporary v 0
-              → fieldsAt at fs ≡ conditionFields t ++ (Start ∷ (partFields p ++ (Finish ∷ l)))
-              → Small fs word out
-              → Done fs l (unled v i (when t p end)) i out (record { at = n; i = y .i }) after
-          chosen v (compares r a b) p l w h small =
-              impossible _ some (ap isElse (begun v r a b p (Finish ∷ l) w h refl small .rest))
 
-          other :
-              (v : ℕ) (t : Condition) (p z : Part) (l : List Field)
-              → word ≡ temporary v 0
-              → fieldsAt at fs ≡ conditionFields t ++ (Start ∷ (partFields p ++ (Else ∷ (partFields z ++ (Finish ∷ l)))))
-              → Small fs word out
-              → Done fs l (unled v i (either t p z end)) i out (record { at = n; i = y .i }) after
-          other v (compares r a b) p z l w h small =
-              let done = two-parts ad known m₄ e sk found after f v r a b p z l w h small in
-              record { rest = past-fields fs beyond ∙ ap behind (done .rest); put = done .put }
+  two-put :
+      (v : ℕ) (t : Condition) (p z : Part) (l : List Field)
+      → word ≡ temporary v 0
+      → fieldsAt at fs ≡ conditionFields t ++ (Start ∷ (partFields p ++ (Else ∷ (partFields z ++ (Finish ∷ l)))))
+      → Small fs word out
+      → Done fs l (unled v i (either t p z end)) i out (record { at = r .at; i = r .i }) after
+  unfolding partCode size
+  two-put v t p z l w h small =
+      let rest = Else ∷ (partFields z ++ (Finish ∷ l)) in
+      let part = part-put v t p rest w h refl small in
+      let closed = closing .two v z l w (part .rest) (small-kept fs word (part .put) small) in
+      let os = Skip (x .i + 1 + size v z) ∷ unled v (x .i + 1) z in
+      let zs-many = code-length v (λ s. s) (x .i + 1) z in
+      let many = all-many v t p rest w h refl small os in
+      record {
+        rest = closed .0 .rest;
+        put =
+            puts-as (many ∙ omega (arith, zs-many) ∙ sym (code-length v (λ s. s) i (either t p z end)))
+            (λ g.
+            let b = from v t p rest w h refl small (omega (arith, g, many)) in
+            let e = middle v t p rest w h refl small (omega (arith, g, many)) in
+            let to : r .no ≡ i + asking v t + size v p + 1 = closed .1 (omega (arith, g, many, e, zs-many, part .put .kept)) ∙ omega (arith, e) in
+            ap₂ (λ d y. askingCode v i t d ++ (unled v y p ++ os)) to b
+            ∙ ap (λ y. askingCode v i t (i + asking v t + size v p + 1) ++ (unled v (i + asking v t) p ++ Skip (y + 1 + size v z) ∷ unled v (y + 1) z)) e
+            ∙ ap
+            (λ y. askingCode v i t (i + asking v t + size v p + 1) ++ (unled v (i + asking v t) p ++ Skip (i + asking v t + size v p + 1 + size v z) ∷ y))
+            (sym (append-nil (unled v (i + asking v t + size v p + 1) z))))
+            (all-put v t p rest w h refl small os (closed .0 .put));
+      }
+
+  pub chosen : Choosing fs at word i out (record { at = r .at; i = r .i }) after
+  chosen = record { on = omega (arith, sized .on, past .on, first .on, closing .on); one = one-put; two = two-put }

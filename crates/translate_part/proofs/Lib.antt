@@ -1,4 +1,4 @@
-pub mod Patches
+pub mod Rooms
 pub mod Looking
 pub mod Parts
 pub mod Choices

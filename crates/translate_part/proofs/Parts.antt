@@ -1,31 +1,29 @@
 -- The orders of instructions, one behind the other.
-use Prim.Native.Nat.{ℕ, suc, _+_, _≤_, _<_}
+use Prim.Native.Nat.{ℕ, _+_}
 use mathlib.Core.Path.{_≡_, refl, sym, ap, subst, _∙_}
-use mathlib.Core.Bool.{Bool, true, false}
-use mathlib.Core.List.{List, [], _∷_, _++_, append-assoc, append-nil}
+use mathlib.Core.List.{List, [], _∷_, _++_, append-assoc}
 use native.Mathlib.Omega.{arith}
-use lib.ListN.{length, set, length-append}
-use Rattle.word.specs.declared.Relation.{Relation}
+use lib.ListN.{length, length-append}
 use Rattle.order.specs.declared.Order.{Order}
-use Rattle.order.specs.declared.Order.the-variants.{Store, Jump, Skip, Branch, Send as SendOrder, Stop}
-use Rattle.order.specs.Memory.{orderWord}
+use Rattle.order.specs.declared.Order.the-variants.{Store, Jump, Skip, Send as SendOrder}
 use Rattle.sheet.specs.declared.Field.{Field}
-use Rattle.sheet.specs.declared.Field.the-variants.{Else, Start, Finish, If, Compare}
-use Rattle.sheet.specs.Sheet.{Expression, Simple, set as setting, send, goto, Condition, compares, Part, end, plain, when, either}
-use Rattle.sheet.specs.Fields.{expressionFields, simpleFields, conditionFields, partFields}
-use Rattle.sheet.specs.Orders.{temporary, code, simpleCode, simpleSize, comparisonCode, opposite}
+use Rattle.sheet.specs.declared.Field.the-variants.{Else, Start, Finish}
+use Rattle.sheet.specs.Sheet.{Simple, set as setting, send, goto, Part, end, plain, when, either}
+use Rattle.sheet.specs.Fields.{expressionFields}
+use Rattle.sheet.specs.Memory.{conditionFields, partFields}
+use Rattle.sheet.specs.Orders.{temporary, code, simpleCode, simpleSize}
 use Rattle.sheet.specs.Condition.{asking, askingCode}
 use Rattle.sheet.specs.Translation.{size, partCode}
-use Rattle.sheet.proofs.Sizes.{simple-length, asking-length, code-length}
+use Rattle.sheet.proofs.Sizes.{simple-length, code-length}
 use Rattle.sheet_field.specs.Memory.{fieldsAt}
 use Rattle.translate_expression.specs.declared.Spot.{Spot}
-use Rattle.translate_expression.specs.Internal.{behind, Puts, Done, Putting, Comparing}
+use Rattle.translate_expression.specs.Internal.{behind, Puts, Done, Putting}
 use Rattle.translate_expression.proofs.Turns.{puts-more, fields-behind}
-use Rattle.translate_part.specs.declared.Opening.{Opening}
+use Rattle.translate_condition.specs.Internal.{Small}
+use Rattle.translate_condition.proofs.Looking.{not-longer}
+use Rattle.translate_condition.proofs.Tries.{puts-as, puts-none, small-kept}
 use Rattle.translate_part.specs.declared.Opening.the-variants.{Last, Goto as Jumps, If as Asks, Missing}
-use Rattle.translate_part.specs.Internal.{firstOpening, isElse, Past, unled, Small, Ending, Parting, Grouping, Choosing, Onward}
-use Rattle.translate_part.proofs.Patches.{puts-none, puts-as, puts-patched}
-use Rattle.translate_part.proofs.Looking.{not-longer, past-fields}
+use Rattle.translate_part.specs.Internal.{firstOpening, unled, Ending, Parting, Choosing}
 
 -- ---- an instruction with an expression
 
@@ -45,9 +43,6 @@ ending-put fs at o word i out s m p r after q = record {
 -- ---- instructions behind instructions
 
 module _ (fs : List ℕ) (word : ℕ) where
-  pub small-kept : {os : List Order} {i r : ℕ} {out m : List ℕ} → Puts os i out r m → Small fs word out → Small fs word m
-  small-kept p small = record { fields = small .fields; orders = omega (arith, small .orders, p .kept) }
-
   -- the orders os have n orders and end before those of l
   then-part :
       {mid l : List Field} (v n : ℕ) (os qs : List Order) (x : Part) {i : ℕ} {out m last : List ℕ} {r t : Spot}
@@ -99,7 +94,7 @@ module _ (fs : List ℕ) (word : ℕ) where
       unfolding partCode
       simply v u x l w stops small done =
           then-part v (simpleSize v u) (simpleCode v (λ s. s) u) (unled v i (plain u x)) x done
-          (rest .whole v x l w (done .rest) stops (small-kept (done .put) small))
+          (rest .whole v x l w (done .rest) stops (small-kept fs word (done .put) small))
           (simple-length v (λ s. s) u) refl
 
       pub last-whole :
@@ -173,7 +168,7 @@ module _ (fs : List ℕ) (word : ℕ) where
           ∙ append-assoc (conditionFields c) (Start ∷ (partFields x ++ (Finish ∷ partFields y))) l
           ∙ ap (λ k. conditionFields c ++ (Start ∷ k)) (append-assoc (partFields x) (Finish ∷ partFields y) l)) small in
           then-part v (asking v c + size v x) (unled v i (when c x end)) (unled v i (when c x y)) y done
-          (rest .whole v y l w (done .rest) stops (small-kept (done .put) small))
+          (rest .whole v y l w (done .rest) stops (small-kept fs word (done .put) small))
           (code-length v (λ s. s) i (when c x end) ∙ omega arith)
           (append-assoc (askingCode v i c (i + asking v c + size v x)) (unled v (i + asking v c) x ++ []) (unled v (i + (asking v c + size v x)) y)
           ∙ ap (λ k. askingCode v i c (i + asking v c + size v x) ++ k)
@@ -187,7 +182,7 @@ module _ (fs : List ℕ) (word : ℕ) where
           (append-assoc (partFields x) (Else ∷ (partFields y ++ (Finish ∷ partFields y₂))) l
           ∙ ap (λ k. partFields x ++ (Else ∷ k)) (append-assoc (partFields y) (Finish ∷ partFields y₂) l))) small in
           then-part v (asking v c + size v x + 1 + size v y) (unled v i (either c x y end)) (unled v i (either c x y y₂)) y₂ done
-          (rest .whole v y₂ l w (done .rest) stops (small-kept (done .put) small))
+          (rest .whole v y₂ l w (done .rest) stops (small-kept fs word (done .put) small))
           (code-length v (λ s. s) i (either c x y end) ∙ omega arith)
           (append-assoc (askingCode v i c (i + asking v c + size v x + 1)) _ (unled v (i + (asking v c + size v x + 1 + size v y)) y₂)
           ∙ ap (λ k. askingCode v i c (i + asking v c + size v x + 1) ++ k)

@@ -1,6 +1,6 @@
 -- One instruction, and the loop over them.
-use Prim.Native.Nat.{ℕ, _+_, _*_, _-_, _≤_, _<_}
-use mathlib.Core.Path.{_≡_, refl, sym, ap, subst, _∙_}
+use Prim.Native.Nat.{ℕ, _+_, _-_, _≤_, _<_}
+use mathlib.Core.Path.{_≡_, refl, sym, subst}
 use mathlib.Core.List.{List, [], _∷_}
 use native.Mathlib.Omega.{arith}
 use lib.ListN.{length}
@@ -13,7 +13,7 @@ use Rattle.translate_part.specs.declared.Opening.{Opening}
 use Rattle.translate_part.specs.declared.Opening.the-variants.{Last, Goto as Jumps, If as Asks, Missing}
 use Rattle.translate_part.specs.declared.Turn.{Turn}
 use Rattle.translate_part.specs.declared.Turn.the-variants.{More, Done as NoMore}
-use Rattle.translate_part.specs.Internal.{firstOpening, openingInside, Ending, Parting, Choosing, Onward, Ended, Turning}
+use Rattle.translate_part.specs.Internal.{firstOpening, openingInside, Ending, Parting, Choosing, Onward, Turning}
 use Rattle.translate_part.proofs.Parts.{part-ends, last-whole, goto-whole, if-whole}
 
 module _ (fs : List ℕ) (word : ℕ) (s : Spot) (out : List ℕ) where

@@ -1,25 +1,26 @@
 -- What the functions do. While a part is put its jumps have the numbers of instructions for addresses.
 use Prim.Native.Nat.{ℕ, _+_, _≤_, _<_}
 use mathlib.Core.Path.{_≡_}
-use mathlib.Core.Bool.{Bool, true, false}
+use mathlib.Core.Bool.{Bool, false}
 use mathlib.Core.List.{List, [], _∷_, _++_}
 use lib.Dec.{eqb}
 use lib.ListN.{length}
-use Rattle.word.specs.declared.Relation.{Relation}
-use Rattle.word.specs.declared.Relation.the-variants.{Equal}
 use Rattle.order.specs.declared.Order.{Order}
-use Rattle.order.specs.declared.Order.the-variants.{Store, Send as SendOrder, Stop}
+use Rattle.order.specs.declared.Order.the-variants.{Store, Skip, Send as SendOrder}
 use Rattle.sheet.specs.declared.Field.{Field}
-use Rattle.sheet.specs.declared.Field.the-variants.{Else, Start, Finish, If, Send, Neg, Not, Binary, Compare, Word, Constant, Set, Goto}
+use Rattle.sheet.specs.declared.Field.the-variants.{Else, Start, Finish, If, Send, Neg, Not, Binary, Compare, Word, Constant, Set, Goto, Run}
 use Rattle.sheet.specs.Sheet.{Expression, Condition, Part, end, when, either}
-use Rattle.sheet.specs.Fields.{expressionFields, conditionFields, partFields}
+use Rattle.sheet.specs.Fields.{expressionFields}
+use Rattle.sheet.specs.Memory.{conditionFields, partFields}
 use Rattle.sheet.specs.Orders.{temporary, code}
-use Rattle.sheet.specs.Translation.{partCode}
+use Rattle.sheet.specs.Translation.{size, partCode}
 use Rattle.sheet_field.specs.Memory.{kind, fieldsAt}
 use Rattle.translate_expression.specs.declared.Spot.{Spot}
-use Rattle.translate_expression.specs.Internal.{behind, Done}
+use Rattle.translate_expression.specs.Internal.{Done}
+use Rattle.translate_condition.specs.Internal.{Small}
 use Rattle.translate_part.specs.declared.Opening.{Opening}
 use Rattle.translate_part.specs.declared.Opening.the-variants.{Last, Goto as Jumps, If as Asks, Missing}
+use Rattle.translate_part.specs.declared.Closed.{Closed}
 use Rattle.translate_part.specs.declared.Turn.{Turn}
 use Rattle.translate_part.specs.declared.Turn.the-variants.{More, Done as NoMore}
 
@@ -39,6 +40,7 @@ openingOf (Word w) = Missing
 openingOf (Constant n) = Missing
 openingOf (Set w) = Last (Store w)
 openingOf (Goto s) = Jumps s
+openingOf (Run w n) = Missing
 
 abbrev pub firstOpening : List Field → Opening
 firstOpening [] = Missing
@@ -49,21 +51,6 @@ openingInside n at (Last o) = at < n
 openingInside n at (Jumps s) = at < n
 openingInside n at Asks = at < n
 openingInside n at Missing = Unit {0}
-
-abbrev pub relationOf : Field → Relation
-relationOf Else = Equal
-relationOf Start = Equal
-relationOf Finish = Equal
-relationOf If = Equal
-relationOf Send = Equal
-relationOf Neg = Equal
-relationOf Not = Equal
-relationOf (Binary o) = Equal
-relationOf (Compare r) = r
-relationOf (Word w) = Equal
-relationOf (Constant n) = Equal
-relationOf (Set w) = Equal
-relationOf (Goto s) = Equal
 
 abbrev pub isElse : List Field → Bool
 isElse [] = false
@@ -80,10 +67,10 @@ pub record Past (n at r : ℕ) : Type 0 where
 abbrev pub unled : ℕ → ℕ → Part → List Order
 unled v p x = partCode v (λ s. s) p x
 
--- no sum of places passes a word
-pub record Small (fs : List ℕ) (word : ℕ) (out : List ℕ) : Type 0 where
-  pub fields : word + 1 + length fs ≤ 4294967295
-  pub orders : length out < 4294967295
+-- the place n orders further on, or the end
+pub record Further (long i n r : ℕ) : Type 0 where
+  pub room : i + n ≤ long → r ≡ i + n
+  pub over : i ≤ long → long ≤ i + n → r ≡ long
 
 -- whatever expression stands at a place, its orders and o are put
 pub record Ending (fs : List ℕ) (at : ℕ) (o : Order) (word i : ℕ) (out : List ℕ) (r : Spot) (after : List ℕ) : Type 0 where
@@ -106,16 +93,23 @@ pub record Parting (fs : List ℕ) (at word i : ℕ) (out : List ℕ) (r : Spot)
       → Small fs word out
       → Done fs l (unled v i x) i out r after
 
--- the same behind a field, and behind an order that is told later
-pub record Grouping (fs : List ℕ) (at word i : ℕ) (out : List ℕ) (r : Spot) (after : List ℕ) : Type 0 where
-  pub on : at ≤ r .at
-  pub whole :
-      (v : ℕ) (f : Field) (x : Part) (l : List Field)
-      → word ≡ temporary v 0
-      → fieldsAt at fs ≡ f ∷ (partFields x ++ l)
-      → firstOpening l ≡ Missing
+-- behind an IF's first part, which ends at x: FINISH; or ELSE and a second part. A no leads behind the orders of the first part, or
+-- behind the SKIP
+pub record Closing (fs : List ℕ) (word : ℕ) (x : Spot) (out : List ℕ) (r : Closed) (after : List ℕ) : Type 0 where
+  pub on : x .at ≤ r .at
+  pub one :
+      (l : List Field)
+      → fieldsAt (x .at) fs ≡ Finish ∷ l
       → Small fs word out
-      → Done fs l (Stop ∷ unled v (i + 1) x) i out r after
+      → Done fs l [] (x .i) out (record { at = r .at; i = r .i }) after
+      × (x .i ≤ length out → r .no ≡ x .i)
+  pub two :
+      (v : ℕ) (y : Part) (l : List Field)
+      → word ≡ temporary v 0
+      → fieldsAt (x .at) fs ≡ Else ∷ (partFields y ++ (Finish ∷ l))
+      → Small fs word out
+      → Done fs l (Skip (x .i + 1 + size v y) ∷ unled v (x .i + 1) y) (x .i) out (record { at = r .at; i = r .i }) after
+      × (x .i + 1 ≤ length out → r .no ≡ x .i + 1)
 
 -- what an IF asks, and its part or its parts
 pub record Choosing (fs : List ℕ) (at word i : ℕ) (out : List ℕ) (r : Spot) (after : List ℕ) : Type 0 where

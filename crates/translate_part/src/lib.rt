@@ -1,21 +1,21 @@
 // The orders of instructions, document 01 ("Translation") and 02, L1, put into an array from a place on, as far as there is room. A
-// jump is put with the number of its instruction; crate translate gives it the address.
+// jump is put with the number of its instruction; crate translate gives it the address. What an IF asks is measured, and put when its
+// parts are, so that its branches are put with their addresses.
 use order::Order;
 use sheet::Field;
 use sheet_field::field_at;
 use sheet_field::kind_of;
-use sheet_field::opposite_of;
+use translate_condition::behind;
+use translate_condition::put_asking;
 use translate_expression::Spot;
-use translate_expression::put_comparison;
 use translate_expression::put_expression;
 use translate_expression::put_order;
-use word::Relation;
-ghost use Prim.Native.Nat.{_+_, _<_};
+use translate_size::condition_size;
 ghost use mathlib.Core.Path.{_≡_};
 ghost use lib.ListN.{length};
 ghost use Rattle.sheet_field.specs.Memory.{fieldsAt};
-ghost use Rattle.translate_part.specs.Internal.{openingOf, firstOpening, openingInside, isElse, relationOf, Past};
-ghost use Rattle.translate_part.specs.Internal.{Ending, Parting, Grouping, Choosing, Turning};
+ghost use Rattle.translate_part.specs.Internal.{openingOf, firstOpening, openingInside, isElse, Past, Further};
+ghost use Rattle.translate_part.specs.Internal.{Ending, Parting, Closing, Choosing, Turning};
 
 // How an instruction begins: as one with an expression, whose last order is told; as a jump to an instruction; as an IF.
 pub enum Opening {
@@ -29,6 +29,13 @@ pub enum Opening {
 pub enum Turn {
     More(Spot),
     Done,
+}
+
+// The places behind an IF, and the order that a no leads to.
+struct Closed {
+    at: usize,
+    i: usize,
+    no: u32,
 }
 
 fn opening_of(f: Field) -> Opening
@@ -48,6 +55,7 @@ fn opening_of(f: Field) -> Opening
         Field::Constant(_) => Opening::Missing,
         Field::Set(w) => Opening::Last(Order::Store(w)),
         Field::Goto(s) => Opening::Goto(s),
+        Field::Run(_, _) => Opening::Missing,
     }
 }
 
@@ -59,27 +67,6 @@ fn opening_at(fields: &[u64], at: usize) -> Opening
         return opening_of(field_at(fields, at));
     }
     Opening::Missing
-}
-
-// The relation of a comparison.
-fn relation_of(f: Field) -> Relation
-    ensures { λ r. ⌜ r ≡ relationOf f ⌝ }
-{
-    match f {
-        Field::Else => Relation::Equal,
-        Field::Start => Relation::Equal,
-        Field::Finish => Relation::Equal,
-        Field::If => Relation::Equal,
-        Field::Send => Relation::Equal,
-        Field::Neg => Relation::Equal,
-        Field::Not => Relation::Equal,
-        Field::Binary(_) => Relation::Equal,
-        Field::Compare(s) => s,
-        Field::Word(_) => Relation::Equal,
-        Field::Constant(_) => Relation::Equal,
-        Field::Set(_) => Relation::Equal,
-        Field::Goto(_) => Relation::Equal,
-    }
 }
 
 // Whether ELSE stands at a place.
@@ -102,18 +89,17 @@ fn past(fields: &[u64], at: usize) -> usize
     at
 }
 
-// A place as the address of an order.
-fn address(i: usize) -> u32
-    ensures { λ r. ⌜ (i < 4294967296 → r ≡ i) ⌝ }
+// The place n orders further on in an array so long; its end, where there is no room for them.
+fn further(long: usize, i: usize, n: u32) -> usize
+    ensures { λ r. ⌜ Further long i n r ⌝ }
 {
-    (i % 4294967296) as u32
-}
-
-// The address behind a place.
-fn behind(i: usize) -> u32
-    ensures { λ r. ⌜ (i + 1 < 4294967296 → r ≡ i + 1) ⌝ }
-{
-    address(i % 4294967296 + 1)
+    if long <= i {
+        return i;
+    }
+    if long - i <= n as usize {
+        return long;
+    }
+    i + n as usize
 }
 
 // An instruction with an expression; its last order is o.
@@ -157,33 +143,37 @@ fn put_one(fields: &[u64], word: u32, out: &mut [u64], s: Spot) -> Turn
     }
 }
 
-// What stands behind IF. The branch leads past the first part, or, where there is a second, past the SKIP that closes the first.
+// What stands behind IF. There is room left for what it asks while its parts are put.
 fn put_if(fields: &[u64], at: usize, word: u32, out: &mut [u64], i: usize) -> Spot
     ensures { λ r. ⌜ Choosing (now (fields .entry)) at word i (now (out .entry)) r (now (out .exit)) ⌝ }
 {
-    let away = opposite_of(relation_of(field_at(fields, at)));
-    let c = put_comparison(fields, past(fields, at), word, out, i);
-    let x = put_group(fields, c.at, word, out, c.i);
-    if else_at(fields, x.at) {
-        let y = put_group(fields, x.at, word, out, x.i);
-        order_number::put_order(out, c.i, Order::Branch(away, behind(x.i)));
-        order_number::put_order(out, x.i, Order::Skip(address(y.i)));
-        return Spot {
-            at: past(fields, y.at),
-            i: y.i,
-        };
-    }
-    order_number::put_order(out, c.i, Order::Branch(away, address(x.i)));
-    Spot {
-        at: past(fields, x.at),
-        i: x.i,
-    }
+    let c = condition_size(fields, at);
+    let j = further(out.len(), i, c.orders);
+    let x = put_part(fields, past(fields, c.at), word, out, j);
+    let e = put_else(fields, word, out, x);
+    let yes = behind(i, c.orders);
+    put_asking(fields, at, word, out, i, c.comparisons, yes, e.no);
+    Spot { at: e.at, i: e.i }
 }
 
-// An order that is told later, and the part behind the field at a place: START or ELSE.
-fn put_group(fields: &[u64], at: usize, word: u32, out: &mut [u64], i: usize) -> Spot
-    ensures { λ r. ⌜ Grouping (now (fields .entry)) at word i (now (out .entry)) r (now (out .exit)) ⌝ }
+// What stands behind an IF's first part: FINISH, and a no leads behind that part; or ELSE and the second part, and a no leads behind
+// the SKIP that closes the first.
+fn put_else(fields: &[u64], word: u32, out: &mut [u64], x: Spot) -> Closed
+    ensures { λ r. ⌜ Closing (now (fields .entry)) word x (now (out .entry)) r (now (out .exit)) ⌝ }
 {
-    let j = put_order(out, i, Order::Stop);
-    put_part(fields, past(fields, at), word, out, j)
+    if else_at(fields, x.at) {
+        let j = further(out.len(), x.i, 1);
+        let y = put_part(fields, past(fields, x.at), word, out, j);
+        put_order(out, x.i, Order::Skip(behind(y.i, 0)));
+        return Closed {
+            at: past(fields, y.at),
+            i: y.i,
+            no: behind(x.i, 1),
+        };
+    }
+    Closed {
+        at: past(fields, x.at),
+        i: x.i,
+        no: behind(x.i, 0),
+    }
 }

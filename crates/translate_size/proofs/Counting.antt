@@ -137,7 +137,7 @@ module _ (fs : List ℕ) (s r : Counted) (f : Operation) (v d : ℕ) (a b : Expr
   joined-by WorkedOut known step e p = worked-joined known (p .right f e)
 
 -- a step goes on
-right-on : (fs : List ℕ) (s r : Counted) (f : Operation) (q : Right) (step : Step)
+pub right-on : (fs : List ℕ) (s r : Counted) (f : Operation) (q : Right) (step : Step)
     → step ≡ rightStep f (s .at) q
     → Stepping fs step s r
     → s .at ≤ r .at

@@ -1,2 +1,4 @@
 pub mod Counting
+pub mod Looking
+pub mod Conditions
 pub mod Statements

@@ -1,68 +1,26 @@
--- The counts of a condition, of an instruction that is no IF, and of a statement's instruction.
-use Prim.Native.Nat.{ℕ, _+_, _-_, _<_, _≤_, max}
+-- The counts of an instruction that is no IF, and of a statement's instruction.
+use Prim.Native.Nat.{ℕ, _+_, _<_, _≤_, max}
 use mathlib.Core.Path.{_≡_, refl, sym, ap, _∙_}
-use mathlib.Core.List.{List, [], _∷_, _++_, map, append-nil, append-assoc}
+use mathlib.Core.List.{List, [], _∷_, _++_, append-nil}
 use native.Mathlib.Omega.{arith}
-use lib.ListN.{length, getD, drop, length-append, length-map, length-drop}
-use lib.Seq.{drop-cons}
-use Rattle.order.specs.declared.Operation.the-variants.{Cmp}
+use lib.ListN.{length, getD, length-append}
 use Rattle.order.specs.declared.Order.the-variants.{Store, Send as SendOrder}
 use Rattle.sheet.specs.declared.Field.{Field}
 use Rattle.sheet.specs.declared.Field.the-variants.{Else, Finish}
-use Rattle.sheet.specs.Sheet.{Simple, set, send, goto, compares}
-use Rattle.sheet.specs.Fields.{expressionFields, simpleFields}
-use Rattle.sheet.specs.Orders.{code, comparisonCode, simpleSize, temporaries, simpleTemporaries}
+use Rattle.sheet.specs.Sheet.{Simple, set, send, goto}
+use Rattle.sheet.specs.Fields.{simpleFields}
+use Rattle.sheet.specs.Orders.{code, simpleSize, simpleTemporaries}
 use Rattle.sheet.specs.Condition.{asking, conditionTemporaries}
 use Rattle.sheet_field.specs.Memory.{kind, fieldIn, fieldsAt}
-use Rattle.translate_expression.specs.declared.Step.{Step}
-use Rattle.translate_expression.specs.Internal.{behind, firstNode, rightOf, rightStep}
+use Rattle.translate_expression.specs.Internal.{behind}
 use Rattle.translate_expression.proofs.Turns.{fields-behind}
 use Rattle.translate_size.specs.declared.Counted.{Counted}
+use Rattle.translate_size.specs.declared.Asked.{Asked}
 use Rattle.translate_size.specs.declared.Size.{Size}
 use Rattle.translate_size.specs.Answers.{capped, SizeOf}
-use Rattle.translate_size.specs.Internal.{Past, Measuring, Stepping, Asking, Simply, Ifs}
-use Rattle.translate_size.proofs.Counting.{capped-one, capped-sum, capped-max, joined-by}
-
--- ---- what stands at a place
-
-module _ (fs : List ℕ) where
-  left-length : (at : ℕ) → length (fieldsAt at fs) ≡ length fs - at
-  left-length at = length-map (drop at fs) fieldIn ∙ length-drop at fs
-
-  some-inside : (at : ℕ) (f : Field) (l : List Field) → fieldsAt at fs ≡ f ∷ l → at < length fs
-  some-inside at f l e = let n = sym (left-length at) ∙ ap length e in omega (arith, n)
-
-  -- the first of the fields, by its kind
-  first-kind : (at k : ℕ) (f : Field) (l : List Field) → k ≡ kind (fieldIn (getD fs at 0)) → fieldsAt at fs ≡ f ∷ l → k ≡ kind f
-  first-kind at k f l known e =
-      let two = sym (ap (map fieldIn) (drop-cons fs at 0 (some-inside at f l e))) ∙ e in
-      let same : fieldIn (getD fs at 0) ≡ f = cc in
-      known ∙ ap kind same
-
-  -- those behind it
-  past-first : (at r : ℕ) (f : Field) (l : List Field) → Past (length fs) at r → fieldsAt at fs ≡ f ∷ l → fieldsAt r fs ≡ l
-  past-first at r f l p e =
-      ap (λ k. fieldsAt k fs) (p .inside (some-inside at f l e)) ∙ fields-behind at fs ∙ ap behind e
-
-  none-left : (at : ℕ) → fieldsAt at fs ≡ [] → length fs ≤ at
-  none-left at e = let n = sym (left-length at) ∙ ap length e in omega (arith, n)
-
--- ---- what an IF asks
-
-module _ (fs : List ℕ) (at p : ℕ) (past : Past (length fs) at p) (first : Counted) (one : Measuring fs p first) (step : Step)
-    (asked : step ≡ rightStep Cmp (first .at) (rightOf (firstNode (fieldsAt (first .at) fs)))) (both : Counted)
-    (two : Stepping fs step first both) (n : ℕ) (all : n ≡ capped (both .orders + 1)) where
-  pub condition-counted : Asking fs at (record { at = both .at; orders = n; temporaries = both .temporaries })
-  unfolding asking conditionTemporaries
-  condition-counted v (compares r a b) l e =
-      let here = past-first fs at p _ _ past e ∙ append-assoc (expressionFields a) (expressionFields b) l in
-      let left = one .whole v 0 a (expressionFields b ++ l) here in
-      let done = joined-by fs first both Cmp v 0 a b l left _ refl step asked two in
-      record {
-        rest = done .rest;
-        its-orders = all ∙ ap (λ k. capped (k + 1)) (done .its-orders) ∙ capped-one (length (comparisonCode v a b));
-        its-temporaries = done .its-temporaries;
-      }
+use Rattle.translate_size.specs.Internal.{Past, Measuring, Asking, Simply, Ifs}
+use Rattle.translate_size.proofs.Counting.{capped-one, capped-sum, capped-max}
+use Rattle.translate_size.proofs.Looking.{left-length, first-kind, past-first, none-left}
 
 -- ---- an instruction that is no IF
 
@@ -105,22 +63,27 @@ some-simple (set w e) l = omega arith
 some-simple (send e) l = omega arith
 some-simple (goto s) l = omega arith
 
-module _ (fs : List ℕ) (c : Counted) (asks : Asking fs 1 c) (p : ℕ) (past : Past (length fs) (c .at) p) where
+module _ (fs : List ℕ) (c : Asked) (asks : Asking fs 1 c) (p : ℕ) (past : Past (length fs) (c .at) p) where
   -- nothing stands behind START
-  pub if-started : length fs ≤ p → Ifs fs (record { orders = c .orders; temporaries = c .temporaries; instructions = 1 })
+  pub if-started : length fs ≤ p → Ifs fs (record { orders = c .orders; temporaries = c .temporaries; instructions = 1; comparisons = c .comparisons })
   if-started over = record {
     few = omega arith;
     one = λ v q u e.
-        let start = past-first fs (c .at) p _ _ past (asks v q _ e .rest) in
+        let start = past-first fs (c .at) p _ _ past (asks .whole v q _ e .rest) in
         let n = sym (left-length fs p) ∙ ap length start in
         absurd (omega (arith, n, some-simple u (Finish ∷ [])));
     two = λ v q u w e.
-        let start = past-first fs (c .at) p _ _ past (asks v q _ e .rest) in
+        let start = past-first fs (c .at) p _ _ past (asks .whole v q _ e .rest) in
         let n = sym (left-length fs p) ∙ ap length start in
         absurd (omega (arith, n, some-simple u (Else ∷ (simpleFields w ++ (Finish ∷ [])))));
     none = λ v q e.
-        let done = asks v q _ e in
-        record { its-orders = done .its-orders; its-temporaries = done .its-temporaries; its-instructions = refl };
+        let done = asks .whole v q _ e in
+        record {
+          its-orders = done .its-orders;
+          its-temporaries = done .its-temporaries;
+          its-instructions = refl;
+          its-comparisons = done .its-comparisons;
+        };
   }
 
   module _ (some : p < length fs) (u : Counted) (simply : Simply fs p u) (k : ℕ) (known : k ≡ kind (fieldIn (getD fs (u .at) 0)))
@@ -131,22 +94,23 @@ module _ (fs : List ℕ) (c : Counted) (asks : Asking fs 1 c) (p : ℕ) (past : 
     both-temporaries : (a b : ℕ) → c .temporaries ≡ capped a → u .temporaries ≡ capped b → ts ≡ capped (max a b)
     both-temporaries a b e f = most ∙ rw (e, f) (capped-max a b)
 
-    pub if-whole : (k ≡ 0 → ⊥) → Ifs fs (record { orders = os; temporaries = ts; instructions = 2 })
+    pub if-whole : (k ≡ 0 → ⊥) → Ifs fs (record { orders = os; temporaries = ts; instructions = 2; comparisons = c .comparisons })
     if-whole no-else = record {
       few = omega arith;
       one = λ v q x e.
-          let asked = asks v q _ e in
+          let asked = asks .whole v q _ e in
           let done = simply v x _ (past-first fs (c .at) p _ _ past (asked .rest)) in
           record {
             its-orders = both-orders (asking v q) (simpleSize v x) (asked .its-orders) (done .its-orders);
             its-temporaries = both-temporaries (conditionTemporaries q) (simpleTemporaries x) (asked .its-temporaries) (done .its-temporaries);
             its-instructions = refl;
+            its-comparisons = asked .its-comparisons;
           };
       two = λ v q x y e.
-          let done = simply v x _ (past-first fs (c .at) p _ _ past (asks v q _ e .rest)) in
+          let done = simply v x _ (past-first fs (c .at) p _ _ past (asks .whole v q _ e .rest)) in
           absurd (no-else (first-kind fs (u .at) k _ _ known (done .rest)));
       none = λ v q e.
-          let start = past-first fs (c .at) p _ _ past (asks v q _ e .rest) in
+          let start = past-first fs (c .at) p _ _ past (asks .whole v q _ e .rest) in
           let n = none-left fs p start in
           absurd (omega arith);
     }
@@ -164,15 +128,15 @@ module _ (fs : List ℕ) (c : Counted) (asks : Asking fs 1 c) (p : ℕ) (past : 
           let same : max (max a m) n ≡ max a (max m n) = omega arith in
           most-too ∙ rw (e, f) (capped-max (max a m) n) ∙ ap capped same
 
-      pub if-two : Ifs fs (record { orders = ns; temporaries = us; instructions = 3 })
+      pub if-two : Ifs fs (record { orders = ns; temporaries = us; instructions = 3; comparisons = c .comparisons })
       if-two = record {
         few = omega arith;
         one = λ v q x e.
-            let done = simply v x _ (past-first fs (c .at) p _ _ past (asks v q _ e .rest)) in
+            let done = simply v x _ (past-first fs (c .at) p _ _ past (asks .whole v q _ e .rest)) in
             let k-too = first-kind fs (u .at) k _ _ known (done .rest) in
             absurd (omega arith);
         two = λ v q x y e.
-            let asked = asks v q _ e in
+            let asked = asks .whole v q _ e in
             let done = simply v x _ (past-first fs (c .at) p _ _ past (asked .rest)) in
             let second = simply-too v y _ (past-first fs (u .at) b _ _ past-too (done .rest)) in
             record {
@@ -183,9 +147,10 @@ module _ (fs : List ℕ) (c : Counted) (asks : Asking fs 1 c) (p : ℕ) (past : 
                   (both-temporaries (conditionTemporaries q) (simpleTemporaries x) (asked .its-temporaries) (done .its-temporaries))
                   (second .its-temporaries);
               its-instructions = refl;
+              its-comparisons = asked .its-comparisons;
             };
         none = λ v q e.
-            let start = past-first fs (c .at) p _ _ past (asks v q _ e .rest) in
+            let start = past-first fs (c .at) p _ _ past (asks .whole v q _ e .rest) in
             let n = none-left fs p start in
             absurd (omega arith);
       }
@@ -208,12 +173,12 @@ module _ (fs : List ℕ) (k : ℕ) (known : k ≡ kind (fieldIn (getD fs 0 0))) 
       no-simple (goto s) e = let k-too = first-kind fs 0 k _ _ known e in omega arith
 
   pub size-simple : (k ≡ 3 → ⊥) → (u : Counted) → Simply fs 0 u
-      → SizeOf fs (record { orders = u .orders; temporaries = u .temporaries; instructions = 1 })
+      → SizeOf fs (record { orders = u .orders; temporaries = u .temporaries; instructions = 1; comparisons = 0 })
   size-simple no-if u simply = record {
     few = omega arith;
     of-simple = λ v x e.
         let done = simply v x [] (e ∙ sym (append-nil (simpleFields x))) in
-        record { its-orders = done .its-orders; its-temporaries = done .its-temporaries; its-instructions = refl };
+        record { its-orders = done .its-orders; its-temporaries = done .its-temporaries; its-instructions = refl; its-comparisons = refl };
     of-then = λ v c x e. absurd (no-if (first-kind fs 0 k _ _ known e));
     of-else = λ v c x y e. absurd (no-if (first-kind fs 0 k _ _ known e));
     of-start = λ v c e. absurd (no-if (first-kind fs 0 k _ _ known e));

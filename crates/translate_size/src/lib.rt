@@ -1,6 +1,6 @@
-// How many orders and temporaries a statement's instruction has, document 01 ("Translation"), before any order is put. The fields of an
-// expression are gone through as in crate translate_expression: a loop along the left, and recursion only into right operands
-// that are worked out.
+// How many orders, temporaries and comparisons a statement's instruction has, document 01 ("Translation") and 02, L5, before any order
+// is put. The fields of an expression are gone through as in crate translate_expression: a loop along the left, and recursion only
+// into right operands that are worked out. Those of what an IF asks are gone through by a loop that counts the conditions yet to come.
 use base::larger;
 use order::Operation;
 use sheet_field::field_at;
@@ -12,11 +12,11 @@ use translate_expression::right_at;
 use translate_expression::right_step;
 use translate_expression::step_at;
 ghost use mathlib.Core.Path.{_≡_};
-ghost use Prim.Native.Nat.{_+_};
+ghost use Prim.Native.Nat.{_+_, _≤_, _<_};
 ghost use lib.ListN.{length, getD};
 ghost use Rattle.sheet_field.specs.Memory.{kind, fieldIn};
 ghost use Rattle.translate_size.specs.Answers.{capped, SizeOf};
-ghost use Rattle.translate_size.specs.Internal.{Past, Leaf, Measuring, Stepping, Asking, Simply, Ifs};
+ghost use Rattle.translate_size.specs.Internal.{Past, Leaf, Measuring, Stepping, Comparing, Onward, Trying, Asking, Simply, Ifs};
 
 // The place behind what was counted, its orders, and the temporaries that it uses.
 struct Counted {
@@ -25,11 +25,21 @@ struct Counted {
     temporaries: u32,
 }
 
-// The orders of a statement, the temporaries that it uses, and the instructions that it has in a sheet.
+// The same of what an IF asks, with its comparisons, and how many conditions are yet to come.
+pub struct Asked {
+    pub at: usize,
+    pub left: usize,
+    pub orders: u32,
+    pub temporaries: u32,
+    pub comparisons: u32,
+}
+
+// The orders of a statement, the temporaries that it uses, the instructions that it has in a sheet, and its comparisons.
 pub struct Size {
     pub orders: u32,
     pub temporaries: u32,
     pub instructions: u32,
+    pub comparisons: u32,
 }
 
 // The sum, or the largest number of the type where that is more.
@@ -111,9 +121,9 @@ fn step_size(fields: &[u64], step: Step, s: Counted) -> Counted
     }
 }
 
-// What an IF asks: the comparison whose relation stands at a place, and the branch.
-fn condition_size(fields: &[u64], at: usize) -> Counted
-    ensures { λ r. ⌜ Asking (now (fields .entry)) at r ⌝ }
+// The comparison whose relation stands at a place, and its branch.
+fn comparison_size(fields: &[u64], at: usize) -> Counted
+    ensures { λ r. ⌜ Comparing (now (fields .entry)) at r ⌝ }
 {
     let first = expression_size(fields, past(fields, at));
     let step = right_step(fields, Operation::Cmp, first.at);
@@ -122,6 +132,65 @@ fn condition_size(fields: &[u64], at: usize) -> Counted
         at: both.at,
         orders: sum(both.orders, 1),
         temporaries: both.temporaries,
+    }
+}
+
+// One more field of what an IF asks. For a run, whose kind is 27 or 28, two conditions are to come instead of one, and so there is
+// one comparison more; any other is a comparison's, whose orders are counted.
+fn one_more(fields: &[u64], s: Asked) -> Asked
+    requires { ⌜ (0 < s .left) × (s .left ≤ s .at + 1) ⌝ }
+    ensures { λ r. ⌜ Onward (now (fields .entry)) s r ⌝ }
+{
+    if 27 <= kind_at(fields, s.at) {
+        return Asked {
+            at: past(fields, s.at),
+            left: s.left + 1,
+            orders: s.orders,
+            temporaries: s.temporaries,
+            comparisons: sum(s.comparisons, 1),
+        };
+    }
+    let c = comparison_size(fields, s.at);
+    Asked {
+        at: c.at,
+        left: s.left - 1,
+        orders: sum(s.orders, c.orders),
+        temporaries: larger(s.temporaries, c.temporaries),
+        comparisons: s.comparisons,
+    }
+}
+
+// The comparisons of a condition, with their branches.
+pub fn trying_size(fields: &[u64], at: usize) -> Asked
+    ensures { λ r. ⌜ Trying (now (fields .entry)) at r ⌝ }
+{
+    let mut s = Asked {
+        at,
+        left: 1,
+        orders: 0,
+        temporaries: 0,
+        comparisons: 1,
+    };
+    while 0 < s.left {
+        s = one_more(fields, s);
+    }
+    s
+}
+
+// What an IF asks: two comparisons or more begin with COND.
+pub fn condition_size(fields: &[u64], at: usize) -> Asked
+    ensures { λ r. ⌜ Asking (now (fields .entry)) at r ⌝ }
+{
+    let c = trying_size(fields, at);
+    if c.comparisons <= 1 {
+        return c;
+    }
+    Asked {
+        at: c.at,
+        left: c.left,
+        orders: sum(c.orders, 1),
+        temporaries: c.temporaries,
+        comparisons: c.comparisons,
     }
 }
 
@@ -155,6 +224,7 @@ fn if_size(fields: &[u64]) -> Size
             orders: c.orders,
             temporaries: c.temporaries,
             instructions: 1,
+            comparisons: c.comparisons,
         };
     }
     let u = simple_size(fields, p);
@@ -166,12 +236,14 @@ fn if_size(fields: &[u64]) -> Size
             orders: sum(sum(orders, w.orders), 1),
             temporaries: larger(temporaries, w.temporaries),
             instructions: 3,
+            comparisons: c.comparisons,
         };
     }
     Size {
         orders,
         temporaries,
         instructions: 2,
+        comparisons: c.comparisons,
     }
 }
 
@@ -187,5 +259,6 @@ pub fn size_of(fields: &[u64]) -> Size
         orders: u.orders,
         temporaries: u.temporaries,
         instructions: 1,
+        comparisons: 0,
     }
 }

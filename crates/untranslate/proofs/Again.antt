@@ -18,10 +18,11 @@ use Rattle.order.proofs.Arrays.{Narrow, orders-in, good-narrow}
 use Rattle.sheet.specs.declared.Field.{Field}
 use Rattle.sheet.specs.declared.Field.the-variants.{Else, Start, Finish, If}
 use Rattle.sheet.specs.Sheet.{Expression, word, constant, negated, inverted, binary, Simple, set, send, goto}
-use Rattle.sheet.specs.Sheet.{Condition, compares, Part, end, plain, when, either, count, Sheet, sheet, instructions, variables}
+use Rattle.sheet.specs.Sheet.{Condition, compares, joins, Part, end, plain, when, either, count, Sheet, sheet, instructions, variables}
 use Rattle.sheet.specs.Formed.{Expressed, SimpleFormed}
-use Rattle.sheet.specs.Condition.{ConditionFormed}
-use Rattle.sheet.specs.Fields.{expressionFields, simpleFields, conditionFields, partFields, sheetFields}
+use Rattle.sheet.specs.Condition.{AllExpressed}
+use Rattle.sheet.specs.Fields.{expressionFields, simpleFields}
+use Rattle.sheet.specs.Memory.{conditionFields, partFields, sheetFields}
 use Rattle.sheet.specs.Translation.{size, translation, temporariesOf, sheetTemporaries}
 use Rattle.sheet.specs.Within.{PartFormed, depth, mostLevels, Within}
 use Rattle.sheet.specs.ReadBack.{Given, given, none, untranslate}
@@ -63,9 +64,12 @@ module _ (v n : ℕ) (few : v ≤ mostVariables) (small : n ≤ mostFields) wher
   stored-simple (send e) h = ap₂ _∷_ (field-in _ (omega arith)) (stored-expression e h)
   stored-simple (goto s) h = ap (λ f. f ∷ []) (field-in _ (omega (arith, h .1)))
 
-  stored-condition : (c : Condition) → ConditionFormed v c → map fieldIn (map fieldWord (conditionFields c)) ≡ conditionFields c
+  stored-condition : (c : Condition) → AllExpressed v c → map fieldIn (map fieldWord (conditionFields c)) ≡ conditionFields c
+  unfolding conditionFields AllExpressed
   stored-condition (compares r x y) h =
       ap₂ _∷_ (field-in _ (omega arith)) (stored-append (expressionFields x) (expressionFields y) (stored-expression x (h .0)) (stored-expression y (h .1)))
+  stored-condition (joins w x y) h =
+      ap₂ _∷_ (field-in _ (omega arith)) (stored-append (conditionFields x) (conditionFields y) (stored-condition x (h .0)) (stored-condition y (h .1)))
 
   stored-mark : (f : Field) (l : List Field) → carried f ≡ 0 → map fieldIn (map fieldWord l) ≡ l → map fieldIn (map fieldWord (f ∷ l)) ≡ f ∷ l
   stored-mark f l e h = ap₂ _∷_ (field-in f (omega (arith, e))) h
@@ -76,11 +80,11 @@ module _ (v n : ℕ) (few : v ≤ mostVariables) (small : n ≤ mostFields) wher
   stored-part (plain u l) f = stored-append (simpleFields u) (partFields l) (stored-simple u (f .0)) (stored-part l (f .1))
   stored-part (when c x l) f =
       stored-mark If _ refl
-      (stored-append (conditionFields c) _ (stored-condition c (f .0))
+      (stored-append (conditionFields c) _ (stored-condition c (f .0 .0))
       (stored-mark Start _ refl (stored-append (partFields x) _ (stored-part x (f .2)) (stored-mark Finish _ refl (stored-part l (f .3))))))
   stored-part (either c x y l) f =
       stored-mark If _ refl
-      (stored-append (conditionFields c) _ (stored-condition c (f .0))
+      (stored-append (conditionFields c) _ (stored-condition c (f .0 .0))
       (stored-mark Start _ refl
       (stored-append (partFields x) _ (stored-part x (f .3))
       (stored-mark Else _ refl (stored-append (partFields y) _ (stored-part y (f .4)) (stored-mark Finish _ refl (stored-part l (f .5))))))))

@@ -15,7 +15,7 @@ use Rattle.order.specs.Good.{Good}
 use Rattle.order.specs.Memory.{orderWord, ordersIn}
 use Rattle.order.proofs.Arrays.{Narrow, orders-in, good-narrow}
 use Rattle.sheet.specs.Sheet.{Part, count, Sheet, sheet, instructions, variables}
-use Rattle.sheet.specs.Fields.{partFields, sheetFields}
+use Rattle.sheet.specs.Memory.{partFields, sheetFields}
 use Rattle.sheet.specs.Translation.{size, firstOrder, partCode, translation, temporariesOf}
 use Rattle.sheet.specs.Within.{PartFormed, depth, mostLevels, Within}
 use Rattle.sheet.specs.ReadBack.{Given, given, none, untranslate}

@@ -7,7 +7,7 @@ use Rattle.order.specs.declared.Order.{Order}
 use Rattle.order.specs.Good.{Good}
 use Rattle.order.specs.Memory.{orderWord}
 use Rattle.sheet.specs.Sheet.{count, instructions}
-use Rattle.sheet.specs.Fields.{sheetFields}
+use Rattle.sheet.specs.Memory.{sheetFields}
 use Rattle.sheet.specs.ReadBack.{Given, given, none, untranslate}
 use Rattle.sheet_field.specs.Memory.{fieldsAt, mostFields}
 use Rattle.untranslate.specs.declared.Untranslated.{Untranslated}

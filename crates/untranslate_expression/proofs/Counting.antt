@@ -6,7 +6,7 @@ use native.Mathlib.Omega.{arith}
 use mathlib.Core.Bool.{true}
 use lib.ListN.{length, getD}
 use Rattle.order.specs.declared.Order.{Order}
-use Rattle.order.specs.declared.Order.the-variants.{Word, Number, Store, Neg, Not, Jump, Skip, Branch, Send, Stop}
+use Rattle.order.specs.declared.Order.the-variants.{Word, Number, Store, Neg, Not, Jump, Skip, Branch, Cond, Send, Stop}
 use Rattle.order.specs.Memory.{orderIn}
 use Rattle.sheet.specs.declared.Field.{Field}
 use Rattle.sheet.specs.declared.Field.the-variants.{Word as WordField, Constant}
@@ -40,6 +40,7 @@ module _ (first t : ℕ) where
   single-one (Jump a) q h = absurd (let z : _≡_ {A = ℕ} 0 1 = cc in omega arith)
   single-one (Skip a) q h = absurd (let z : _≡_ {A = ℕ} 0 1 = cc in omega arith)
   single-one (Branch r a) q h = absurd (let z : _≡_ {A = ℕ} 0 1 = cc in omega arith)
+  single-one (Cond n) q h = absurd (let z : _≡_ {A = ℕ} 0 1 = cc in omega arith)
   single-one Send q h = absurd (let z : _≡_ {A = ℕ} 0 1 = cc in omega arith)
   single-one Stop q h = absurd (let z : _≡_ {A = ℕ} 0 1 = cc in omega arith)
 

@@ -66,16 +66,16 @@ module _ (t v : ℕ) where
   abbrev loadsBy : ℕ → Bool
   loadsBy k = pick (eqb k 12) (eqb v t) false
 
-  all-loads : each (λ k. loads t (orderOf k v)) 0 37 ≡ each loadsBy 0 37
+  all-loads : each (λ k. loads t (orderOf k v)) 0 38 ≡ each loadsBy 0 38
   unfolding each orderOf shapes pick
   all-loads = refl
 
-  none-loads : (k : ℕ) → 37 ≤ k → loads t (orderOf k v) ≡ loadsBy k
+  none-loads : (k : ℕ) → 38 ≤ k → loads t (orderOf k v) ≡ loadsBy k
   unfolding pick
   none-loads k h = rw (← no-order k v h, ne-eqb k 12 (λ e. omega (arith, e))) refl
 
   loads-told : (k : ℕ) → loads t (orderOf k v) ≡ loadsBy k
-  loads-told k = by-less k 37 (λ h. each-at (λ j. loads t (orderOf j v)) loadsBy 37 all-loads k h) (none-loads k)
+  loads-told k = by-less k 38 (λ h. each-at (λ j. loads t (orderOf j v)) loadsBy 38 all-loads k h) (none-loads k)
 
 module _ (t x : ℕ) (small : t < 4294967296) where
   abbrev kindOf : ℕ
@@ -105,18 +105,18 @@ abbrev pub singleBy : ℕ → Bool
 singleBy k = pick (ltb k 4) (leb 2 k) (pick (ltb k 13) false (pick (eqb k 24) false (ltb k 36)))
 
 module _ (v : ℕ) where
-  all-single : each (λ k. isSingle (orderOf k v)) 0 37 ≡ each singleBy 0 37
+  all-single : each (λ k. isSingle (orderOf k v)) 0 38 ≡ each singleBy 0 38
   unfolding each orderOf shapes pick
   all-single = refl
 
-  none-single : (k : ℕ) → 37 ≤ k → isSingle (orderOf k v) ≡ singleBy k
+  none-single : (k : ℕ) → 38 ≤ k → isSingle (orderOf k v) ≡ singleBy k
   unfolding pick
   none-single k h =
       rw (← no-order k v h, le-ltb k 4 (omega arith), le-ltb k 13 (omega arith), ne-eqb k 24 (λ e. omega (arith, e)), le-ltb k 36 (omega arith))
       refl
 
   pub single-told : (k : ℕ) → isSingle (orderOf k v) ≡ singleBy k
-  single-told k = by-less k 37 (λ h. each-at (λ j. isSingle (orderOf j v)) singleBy 37 all-single k h) (none-single k)
+  single-told k = by-less k 38 (λ h. each-at (λ j. isSingle (orderOf j v)) singleBy 38 all-single k h) (none-single k)
 
 -- ---- the first LOAD of a word, from place `at` on: none so far up to j
 

@@ -10,7 +10,7 @@ use Rattle.base.specs.Choice.{pick}
 use Rattle.order.specs.declared.Operation.{Operation}
 use Rattle.order.specs.declared.Operation.the-variants.{Cmp}
 use Rattle.order.specs.declared.Order.{Order}
-use Rattle.order.specs.declared.Order.the-variants.{Word, Number, Store, Neg, Not, Jump, Skip, Branch, Send, Stop}
+use Rattle.order.specs.declared.Order.the-variants.{Word, Number, Store, Neg, Not, Jump, Skip, Branch, Cond, Send, Stop}
 use Rattle.order.specs.Memory.{ordersIn}
 use Rattle.sheet.specs.declared.Operator.{Operator}
 use Rattle.sheet.specs.declared.Field.{Field}
@@ -53,6 +53,7 @@ leafOf Not = Else
 leafOf (Jump a) = Else
 leafOf (Skip a) = Else
 leafOf (Branch r a) = Else
+leafOf (Cond n) = Else
 leafOf Send = Else
 leafOf Stop = Else
 
@@ -66,6 +67,7 @@ loadsLeaf first Not = false
 loadsLeaf first (Jump a) = false
 loadsLeaf first (Skip a) = false
 loadsLeaf first (Branch r a) = false
+loadsLeaf first (Cond n) = false
 loadsLeaf first Send = false
 loadsLeaf first Stop = false
 
@@ -79,6 +81,7 @@ loads t Not = false
 loads t (Jump a) = false
 loads t (Skip a) = false
 loads t (Branch r a) = false
+loads t (Cond n) = false
 loads t Send = false
 loads t Stop = false
 
@@ -109,6 +112,7 @@ operatorOf Not = Else
 operatorOf (Jump a) = Else
 operatorOf (Skip a) = Else
 operatorOf (Branch r a) = Else
+operatorOf (Cond n) = Else
 operatorOf Send = Else
 operatorOf Stop = Else
 
@@ -122,6 +126,7 @@ linkBy first t Not q = Unary NotField
 linkBy first t (Jump a) q = End
 linkBy first t (Skip a) q = End
 linkBy first t (Branch r a) q = End
+linkBy first t (Cond n) q = End
 linkBy first t Send q = End
 linkBy first t Stop q = End
 
@@ -143,6 +148,7 @@ isSingle Not = true
 isSingle (Jump a) = false
 isSingle (Skip a) = false
 isSingle (Branch r a) = false
+isSingle (Cond n) = false
 isSingle Send = false
 isSingle Stop = false
 

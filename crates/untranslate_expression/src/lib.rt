@@ -89,6 +89,7 @@ fn leaf_of(o: Order) -> Field
         Order::Jump(_) => Field::Else,
         Order::Skip(_) => Field::Else,
         Order::Branch(_, _) => Field::Else,
+        Order::Cond(_) => Field::Else,
         Order::Send => Field::Else,
         Order::Stop => Field::Else,
     }
@@ -107,6 +108,7 @@ fn loads_leaf(o: Order, first: u32) -> bool
         Order::Jump(_) => false,
         Order::Skip(_) => false,
         Order::Branch(_, _) => false,
+        Order::Cond(_) => false,
         Order::Send => false,
         Order::Stop => false,
     }
@@ -156,6 +158,7 @@ fn link_at(orders: &[u64], at: usize, first: u32, word: u32) -> Link
         Order::Jump(_) => Link::End,
         Order::Skip(_) => Link::End,
         Order::Branch(_, _) => Link::End,
+        Order::Cond(_) => Link::End,
         Order::Send => Link::End,
         Order::Stop => Link::End,
     }
@@ -178,6 +181,7 @@ fn operator_of(o: Order) -> Field
         Order::Jump(_) => Field::Else,
         Order::Skip(_) => Field::Else,
         Order::Branch(_, _) => Field::Else,
+        Order::Cond(_) => Field::Else,
         Order::Send => Field::Else,
         Order::Stop => Field::Else,
     }

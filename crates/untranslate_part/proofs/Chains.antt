@@ -1,4 +1,4 @@
--- One instruction: its expression or comparison, and the order behind it, which tells the first field.
+-- One instruction: its expression or comparison, and the order behind it, which tells the first field; and any by its first order.
 use Prim.Native.Nat.{ℕ, suc, _+_, _-_, _≤_, _<_}
 use mathlib.Core.Path.{_≡_, refl, ap, ap₂, subst, _∙_}
 use mathlib.Core.Bool.{true}
@@ -10,38 +10,31 @@ use lib.Seq.{sets, set-set}
 use Rattle.base.specs.Choice.{pick}
 use Rattle.base.proofs.Cases.{by-less}
 use Rattle.word.specs.declared.Relation.{Relation}
-use Rattle.word.specs.declared.Relation.the-variants.{Equal, Unequal, Less, AtMost, Greater, AtLeast}
 use Rattle.order.specs.declared.Operation.the-variants.{Cmp}
 use Rattle.order.specs.declared.Order.{Order}
-use Rattle.order.specs.declared.Order.the-variants.{Word, Number, Store, Neg, Not, Jump, Skip, Branch, Send, Stop}
+use Rattle.order.specs.declared.Order.the-variants.{Word, Number, Store, Neg, Not, Jump, Skip, Branch, Cond, Send, Stop}
 use Rattle.sheet.specs.declared.Field.{Field}
 use Rattle.sheet.specs.declared.Field.the-variants.{Else, If, Send as SendField, Compare, Set, Goto as GotoField}
-use Rattle.sheet.specs.Sheet.{Expression, operand, Simple, set as setting, send, goto, Condition, compares}
-use Rattle.sheet.specs.Fields.{expressionFields, simpleFields, conditionFields}
+use Rattle.sheet.specs.Sheet.{Expression, operand, Simple, set as setting, send, goto, Condition, compares, joins}
+use Rattle.sheet.specs.Fields.{expressionFields, simpleFields}
+use Rattle.sheet.specs.Memory.{conditionFields}
 use Rattle.sheet.specs.Orders.{joined, code, simpleCode, comparisonCode, opposite}
 use Rattle.sheet.specs.Formed.{Expressed, SimpleFormed}
-use Rattle.sheet.specs.Condition.{askingCode, ConditionFormed}
+use Rattle.sheet.specs.Condition.{comparisons, AllExpressed, ConditionFormed, tryCode, asking, askingCode}
 use Rattle.sheet_field.specs.Memory.{fieldWord}
 use Rattle.untranslate_expression.specs.declared.Link.the-variants.{End}
 use Rattle.untranslate_expression.specs.declared.Spot.{Spot}
 use Rattle.untranslate_expression.specs.Internal.{ordersAt, firstOrder, behind, loadsLeaf, linkOf, Past, Put, Writes, Wrote, Reading}
 use Rattle.untranslate_expression.proofs.Places.{none-outside, set-sets, writes-before}
 use Rattle.untranslate_expression.proofs.Links.{joined-left, starts, expression-chain, comparison-chain}
+use Rattle.untranslate_condition.proofs.Conditions.{opposite-twice}
 use Rattle.untranslate_part.specs.declared.Role.{Role}
-use Rattle.untranslate_part.specs.declared.Role.the-variants.{Inside, Last, Goto, Branch as Branches, Skip as Skips, Stop as Stops}
+use Rattle.untranslate_part.specs.declared.Role.the-variants.{Inside, Last, Goto, Branch as Branches, Cond as Conds, Skip as Skips, Stop as Stops}
 use Rattle.untranslate_part.specs.declared.Begun.{Begun}
 use Rattle.untranslate_part.specs.declared.Begun.the-variants.{Whole, Asked, Missing}
-use Rattle.untranslate_part.specs.Internal.{roleOf, roleAt, IfPut, Further, Gives, Chained, Known, Beginning}
+use Rattle.untranslate_part.specs.Internal.{roleOf, roleAt, IfPut, Further, Gives, Chained, Joined, Known, Beginning}
 
 -- ---- roles
-
-opposite-twice : (r : Relation) → opposite (opposite r) ≡ r
-opposite-twice Equal = refl
-opposite-twice Unequal = refl
-opposite-twice Less = refl
-opposite-twice AtMost = refl
-opposite-twice Greater = refl
-opposite-twice AtLeast = refl
 
 -- no instruction ends with such an order, and no IF has it behind its comparison
 abbrev pub Untold : Role → Type 0
@@ -49,6 +42,7 @@ Untold Inside = Unit {0}
 Untold (Last f) = ⊥
 Untold (Goto a) = Unit {0}
 Untold (Branches r a) = ⊥
+Untold (Conds n) = Unit {0}
 Untold (Skips a) = Unit {0}
 Untold Stops = Unit {0}
 
@@ -58,6 +52,7 @@ Unbegun Inside = ⊥
 Unbegun (Last f) = Unit {0}
 Unbegun (Goto a) = ⊥
 Unbegun (Branches r a) = Unit {0}
+Unbegun (Conds n) = ⊥
 Unbegun (Skips a) = Unit {0}
 Unbegun Stops = Unit {0}
 
@@ -65,6 +60,9 @@ Unbegun Stops = Unit {0}
 role-inside : (first at : ℕ) (os : List ℕ) (q : Role) → q ≡ roleAt first at os → (q ≡ Stops → ⊥) → at < length os
 role-inside first at os q known some =
     by-less at (length os) (λ h. h) (λ h. absurd (some (known ∙ ap (λ l. roleOf first (firstOrder l)) (none-outside at os h))))
+
+pub cond-inside : (first at : ℕ) (os : List ℕ) (n : ℕ) → Conds n ≡ roleAt first at os → at < length os
+cond-inside first at os n known = role-inside first at os (Conds n) known (λ z. let no : _≡_ {A = ℕ} 0 1 = cc in omega arith)
 
 leaf-role : (first t : ℕ) (o : Order) → loadsLeaf t o ≡ true → roleOf first o ≡ Inside
 leaf-role first t (Word f w) e = refl
@@ -75,6 +73,7 @@ leaf-role first t Not e = refl
 leaf-role first t (Jump a) e = let z : _≡_ {A = ℕ} 0 1 = cc in absurd (omega arith)
 leaf-role first t (Skip a) e = let z : _≡_ {A = ℕ} 0 1 = cc in absurd (omega arith)
 leaf-role first t (Branch r a) e = let z : _≡_ {A = ℕ} 0 1 = cc in absurd (omega arith)
+leaf-role first t (Cond n) e = let z : _≡_ {A = ℕ} 0 1 = cc in absurd (omega arith)
 leaf-role first t Send e = let z : _≡_ {A = ℕ} 0 1 = cc in absurd (omega arith)
 leaf-role first t Stop e = let z : _≡_ {A = ℕ} 0 1 = cc in absurd (omega arith)
 
@@ -82,14 +81,31 @@ leaf-role first t Stop e = let z : _≡_ {A = ℕ} 0 1 = cc in absurd (omega ari
 code-role : (first v d : ℕ) (e : Expression) → Expressed v e → (m : List Order) → roleOf first (firstOrder (code v d e ++ m)) ≡ Inside
 code-role first v d e x m = leaf-role first (v + 2) (firstOrder (code v d e ++ m)) (starts v d e x m)
 
-asking-role : (first v p : ℕ) (c : Condition) (d : ℕ) → ConditionFormed v c → (m : List Order) → roleOf first (firstOrder (askingCode v p c d ++ m)) ≡ Inside
-unfolding askingCode
-asking-role first v p (compares r a b) d x m =
-    ap (λ l. roleOf first (firstOrder ((l ++ Branch (opposite r) d ∷ []) ++ m))) (joined-left Cmp v 0 (operand b) (code v 0 a) (code v 1 b))
-    ∙ ap (λ l. roleOf first (firstOrder l))
-    (append-assoc (code v 0 a ++ joined Cmp v 0 (operand b) [] (code v 1 b)) (Branch (opposite r) d ∷ []) m
-    ∙ append-assoc (code v 0 a) (joined Cmp v 0 (operand b) [] (code v 1 b)) _)
-    ∙ code-role first v 0 a (x .0) _
+comparison-role :
+    (first v : ℕ) (x y : Expression)
+    → Expressed v x
+    → (m : List Order)
+    → roleOf first (firstOrder (comparisonCode v x y ++ m)) ≡ Inside
+comparison-role first v x y h m =
+    ap (λ l. roleOf first (firstOrder (l ++ m))) (joined-left Cmp v 0 (operand y) (code v 0 x) (code v 1 y))
+    ∙ ap (λ l. roleOf first (firstOrder l)) (append-assoc (code v 0 x) (joined Cmp v 0 (operand y) [] (code v 1 y)) m)
+    ∙ code-role first v 0 x h _
+
+-- an IF begins inside an instruction, or with COND
+abbrev askedBy : Condition → Role
+askedBy (compares r x y) = Inside
+askedBy (joins w x y) = Conds (comparisons (joins w x y))
+
+asking-role :
+    (first v p : ℕ) (c : Condition) (d : ℕ)
+    → ConditionFormed v c
+    → (m : List Order)
+    → roleOf first (firstOrder (askingCode v p c d ++ m)) ≡ askedBy c
+unfolding askingCode tryCode AllExpressed pick
+asking-role first v p (compares r x y) d h m =
+    ap (λ l. roleOf first (firstOrder l)) (append-assoc (comparisonCode v x y) (Branch (opposite r) d ∷ []) m)
+    ∙ comparison-role first v x y (h .0 .0) _
+asking-role first v p (joins w x y) d h m = refl
 
 -- ---- the head of an IF, before its comparison's fields
 
@@ -134,18 +150,18 @@ module _ (os : List ℕ) (first : ℕ) (s : Spot) (fs : List ℕ) (e : Spot) (m 
       (omega arith) (omega arith)
 
   comparison-read :
-      (v p : ℕ) (r : Relation) (a b : Expression) (d : ℕ) (l : List Order)
+      (v : ℕ) (r : Relation) (x y : Expression) (d : ℕ) (l : List Order)
       → first ≡ v + 2
       → first + length os ≤ 4294967295
-      → ConditionFormed v (compares r a b)
-      → ordersAt (s .at) os ≡ askingCode v p (compares r a b) d ++ l
-      → s .n + length (If ∷ conditionFields (compares r a b)) ≤ length fs
-      → Wrote os (Else ∷ (expressionFields a ++ expressionFields b)) (Branch (opposite r) d ∷ l) (s .n + 1) fs e m
-  unfolding askingCode
-  comparison-read v p r a b d l start few formed stands fits =
-      reading .whole v 0 (comparisonCode v a b) (Else ∷ (expressionFields a ++ expressionFields b)) (Branch (opposite r) d ∷ l) start (omega arith)
-      (comparison-chain v a b (formed .0) (formed .1))
-      (stands ∙ append-assoc (comparisonCode v a b) (Branch (opposite r) d ∷ []) l) refl (omega arith) (omega arith)
+      → Expressed v x
+      → Expressed v y
+      → ordersAt (s .at) os ≡ comparisonCode v x y ++ (Branch (opposite r) d ∷ l)
+      → s .n + length (If ∷ conditionFields (compares r x y)) ≤ length fs
+      → Wrote os (Else ∷ (expressionFields x ++ expressionFields y)) (Branch (opposite r) d ∷ l) (s .n + 1) fs e m
+  unfolding conditionFields
+  comparison-read v r x y d l start few hx hy stands fits =
+      reading .whole v 0 (comparisonCode v x y) (Else ∷ (expressionFields x ++ expressionFields y)) (Branch (opposite r) d ∷ l) start (omega arith)
+      (comparison-chain v x y hx hy) stands refl (omega arith) (omega arith)
 
   abbrev role : Role
   role = roleAt first (e .at) os
@@ -191,21 +207,11 @@ module _ (os : List ℕ) (first : ℕ) (s : Spot) (fs : List ℕ) (e : Spot) (m 
             };
           };
         };
-    asks = λ v p c d l start few formed stands fits. no-asks v p c d l start few formed stands fits;
+    asks = λ v r x y d l start few hx hy stands fits.
+        let w = comparison-read v r x y d l start few hx hy stands fits in
+        let z : _≡_ {A = ℕ} 0 1 = cc (ap (λ k. roleOf first (firstOrder k)) (w .rest)) in
+        absurd (omega arith);
   }
-    where
-      no-asks :
-          (v p : ℕ) (c : Condition) (d : ℕ) (l : List Order)
-          → first ≡ v + 2
-          → first + length os ≤ 4294967295
-          → ConditionFormed v c
-          → ordersAt (s .at) os ≡ askingCode v p c d ++ l
-          → s .n + length (If ∷ conditionFields c) ≤ length fs
-          → Gives (λ r. Asked r d) (Whole (record { at = g; n = e .n })) os (If ∷ conditionFields c) l (s .n) fs after
-      no-asks v p (compares r a b) d l start few formed stands fits =
-          let w = comparison-read v p r a b d l start few formed stands fits in
-          let z : _≡_ {A = ℕ} 0 1 = cc (ap (λ k. roleOf first (firstOrder k)) (w .rest)) in
-          absurd (omega arith)
 
   -- a branch
   pub chained-asks :
@@ -216,6 +222,7 @@ module _ (os : List ℕ) (first : ℕ) (s : Spot) (fs : List ℕ) (e : Spot) (m 
       → (g : ℕ)
       → Past os (e .at) g
       → Chained os first s fs (Asked (record { at = g; n = e .n }) a) after
+  unfolding conditionFields
   chained-asks t a known after put g past = record {
     kept = put .kept ∙ reading .safe .kept;
     whole = λ r is. let z : _≡_ {A = ℕ} 0 1 = cc in absurd (omega arith);
@@ -227,37 +234,27 @@ module _ (os : List ℕ) (first : ℕ) (s : Spot) (fs : List ℕ) (e : Spot) (m 
         let w = expression-read v x o l start few formed none stands fits in
         let z : _≡_ {A = ℕ} 0 1 = cc (ap (λ k. roleOf first (firstOrder k)) (w .rest)) in
         absurd (omega arith);
-    asks = λ v p c d l start few formed stands fits. asks v p c d l start few formed stands fits;
-  }
-    where
-      asks :
-          (v p : ℕ) (c : Condition) (d : ℕ) (l : List Order)
-          → first ≡ v + 2
-          → first + length os ≤ 4294967295
-          → ConditionFormed v c
-          → ordersAt (s .at) os ≡ askingCode v p c d ++ l
-          → s .n + length (If ∷ conditionFields c) ≤ length fs
-          → Gives (λ r. Asked r d) (Asked (record { at = g; n = e .n }) a) os (If ∷ conditionFields c) l (s .n) fs after
-      asks v p (compares r x y) d l start few formed stands fits =
-          let w = comparison-read v p r x y d l start few formed stands fits in
-          let told = known ∙ ap (λ k. roleOf first (firstOrder k)) (w .rest) in
-          let there : a ≡ d = cc in
-          let turned : t ≡ opposite r = cc in
-          let related : opposite t ≡ r = ap opposite turned ∙ opposite-twice r in
-          record {
-            spot = record { at = g; n = e .n };
-            is = ap (λ k. Asked (record { at = g; n = e .n }) k) there;
-            wrote = record {
-              rest = past .rest ∙ ap behind (w .rest);
-              writes = record {
-                place = w .writes .place ∙ omega arith;
-                fields =
-                    put .fields (omega (arith, reading .safe .kept))
-                    ∙ ap₂ (λ k h. sets k (s .n) (fieldWord If ∷ fieldWord (Compare h) ∷ [])) (w .writes .fields) related
-                    ∙ head-written (map fieldWord (expressionFields x ++ expressionFields y)) fs (s .n) (fieldWord If) (fieldWord (Compare r)) (fieldWord Else);
-              };
+    asks = λ v r x y d l start few hx hy stands fits.
+        let w = comparison-read v r x y d l start few hx hy stands fits in
+        let told = known ∙ ap (λ k. roleOf first (firstOrder k)) (w .rest) in
+        let there : a ≡ d = cc in
+        let turned : t ≡ opposite r = cc in
+        let related : opposite t ≡ r = ap opposite turned ∙ opposite-twice r in
+        record {
+          spot = record { at = g; n = e .n };
+          is = ap (λ k. Asked (record { at = g; n = e .n }) k) there;
+          wrote = record {
+            rest = past .rest ∙ ap behind (w .rest);
+            writes = record {
+              place = w .writes .place ∙ omega arith;
+              fields =
+                  put .fields (omega (arith, reading .safe .kept))
+                  ∙ ap₂ (λ k h. sets k (s .n) (fieldWord If ∷ fieldWord (Compare h) ∷ [])) (w .writes .fields) related
+                  ∙ head-written (map fieldWord (expressionFields x ++ expressionFields y)) fs (s .n) (fieldWord If) (fieldWord (Compare r)) (fieldWord Else);
             };
-          }
+          };
+        };
+  }
 
   -- any other order
   pub chained-missing : (q : Role) → q ≡ role → Untold q → Chained os first s fs Missing m
@@ -268,20 +265,10 @@ module _ (os : List ℕ) (first : ℕ) (s : Spot) (fs : List ℕ) (e : Spot) (m 
     lasts = λ v x o h l start few formed is none stands fits.
         let w = expression-read v x o l start few formed none stands fits in
         absurd (subst Untold (known ∙ ap (λ k. roleOf first (firstOrder k)) (w .rest) ∙ is) untold);
-    asks = λ v p c d l start few formed stands fits. asks v p c d l start few formed stands fits;
+    asks = λ v r x y d l start few hx hy stands fits.
+        let w = comparison-read v r x y d l start few hx hy stands fits in
+        absurd (subst Untold (known ∙ ap (λ k. roleOf first (firstOrder k)) (w .rest)) untold);
   }
-    where
-      asks :
-          (v p : ℕ) (c : Condition) (d : ℕ) (l : List Order)
-          → first ≡ v + 2
-          → first + length os ≤ 4294967295
-          → ConditionFormed v c
-          → ordersAt (s .at) os ≡ askingCode v p c d ++ l
-          → s .n + length (If ∷ conditionFields c) ≤ length fs
-          → Gives (λ r. Asked r d) Missing os (If ∷ conditionFields c) l (s .n) fs m
-      asks v p (compares r x y) d l start few formed stands fits =
-          let w = comparison-read v p r x y d l start few formed stands fits in
-          absurd (subst Untold (known ∙ ap (λ k. roleOf first (firstOrder k)) (w .rest)) untold)
 
 -- ---- an instruction by its first order
 
@@ -298,10 +285,24 @@ module _ (os table : List ℕ) (first : ℕ) (s : Spot) (fs : List ℕ) where
       → s .n + length (simpleFields u) ≤ length fs
       → Gives (λ r. Whole r) b os (simpleFields u) l (s .n) fs after
 
+  abbrev Asking : Begun → List ℕ → Type 0
+  Asking b after =
+      (v m : ℕ) (to : ℕ → ℕ) (c : Condition) (d : ℕ) (l : List Order)
+      → Known os table first v m to
+      → ConditionFormed v c
+      → ordersAt (s .at) os ≡ askingCode v (s .at) c d ++ l
+      → s .at + asking v c < d
+      → s .n + length (If ∷ conditionFields c) ≤ length fs
+      → Gives (λ r. Asked r d) b os (If ∷ conditionFields c) l (s .n) fs after
+
   -- the role of the first order of an instruction that is no jump
   set-role : (v : ℕ) (e : Expression) (o : Order) (l : List Order) → Expressed v e → ordersAt (s .at) os ≡ (code v 0 e ++ o ∷ []) ++ l → here ≡ Inside
   set-role v e o l x stands =
       ap (λ k. roleOf first (firstOrder k)) (stands ∙ append-assoc (code v 0 e) (o ∷ []) l) ∙ code-role first v 0 e x (o ∷ l)
+
+  -- and that of an IF
+  if-role : (v : ℕ) (c : Condition) (d : ℕ) (l : List Order) → ConditionFormed v c → ordersAt (s .at) os ≡ askingCode v (s .at) c d ++ l → here ≡ askedBy c
+  if-role v c d l formed stands = ap (λ k. roleOf first (firstOrder k)) stands ∙ asking-role first v (s .at) c d formed l
 
   pub begin-full : length fs ≤ s .n → Beginning os table first s fs Missing fs
   begin-full h = record {
@@ -309,7 +310,7 @@ module _ (os table : List ℕ) (first : ℕ) (s : Spot) (fs : List ℕ) where
     whole = λ r is. let z : _≡_ {A = ℕ} 0 1 = cc in absurd (omega arith);
     asked = λ r a is. let z : _≡_ {A = ℕ} 0 1 = cc in absurd (omega arith);
     simple = none;
-    asks = λ v m to p c d l known formed stands fits. absurd (omega arith);
+    asks = λ v m to c d l known formed stands far fits. absurd (omega arith);
   }
     where
       none : Simply Missing fs
@@ -318,15 +319,22 @@ module _ (os table : List ℕ) (first : ℕ) (s : Spot) (fs : List ℕ) where
       none v m to (goto a) l known formed stands fits = absurd (omega arith)
 
   pub begin-chain : Inside ≡ here → (b : Begun) (after : List ℕ) → Chained os first s fs b after → Beginning os table first s fs b after
-  unfolding pick
+  unfolding pick askingCode tryCode AllExpressed
   begin-chain inside b after chained = record {
     kept = chained .kept;
     whole = chained .whole;
     asked = chained .asked;
     simple = simply;
-    asks = λ v m to p c d l known formed stands fits. chained .asks v p c d l (known .start) (known .few) formed stands fits;
+    asks = asking-so;
   }
     where
+      asking-so : Asking b after
+      asking-so v m to (compares r x y) d l known formed stands far fits =
+          chained .asks v r x y d l (known .start) (known .few) (formed .0 .0) (formed .0 .1)
+          (stands ∙ append-assoc (comparisonCode v x y) (Branch (opposite r) d ∷ []) l) fits
+      asking-so v m to (joins w x y) d l known formed stands far fits =
+          let z : _≡_ {A = ℕ} 0 1 = cc (if-role v (joins w x y) d l formed stands) in absurd (omega arith)
+
       simply : Simply b after
       simply v m to (setting w e) l known formed stands fits =
           let below : w < first = omega (arith, known .start, formed .0 .1) in
@@ -358,10 +366,15 @@ module _ (os table : List ℕ) (first : ℕ) (s : Spot) (fs : List ℕ) where
         });
     asked = λ r a is. let z : _≡_ {A = ℕ} 0 1 = cc in absurd (omega arith);
     simple = simply;
-    asks = λ v m to p c d l known formed stands fits.
-        let z : _≡_ {A = ℕ} 0 1 = cc (ap (λ k. roleOf first (firstOrder k)) stands ∙ asking-role first v p c d formed l) in absurd (omega arith);
+    asks = no-asking;
   }
     where
+      no-asking : Asking (Whole (record { at = g; n = n })) after
+      no-asking v m to (compares r x y) d l known formed stands far fits =
+          let z : _≡_ {A = ℕ} 0 1 = cc (if-role v (compares r x y) d l formed stands) in absurd (omega arith)
+      no-asking v m to (joins w x y) d l known formed stands far fits =
+          let z : _≡_ {A = ℕ} 0 1 = cc (if-role v (joins w x y) d l formed stands) in absurd (omega arith)
+
       simply : Simply (Whole (record { at = g; n = n })) after
       simply v m to (setting w e) l known formed stands fits =
           let z : _≡_ {A = ℕ} 0 1 = cc (set-role v e (Store w) l (formed .1) stands) in absurd (omega arith)
@@ -379,16 +392,45 @@ module _ (os table : List ℕ) (first : ℕ) (s : Spot) (fs : List ℕ) where
             };
           }
 
+  pub begin-joined : (many : ℕ) → Conds many ≡ here → (b : Begun) (after : List ℕ) → Joined os first s many fs b after → Beginning os table first s fs b after
+  begin-joined many conds b after joined = record {
+    kept = joined .kept;
+    whole = λ r is. absurd (joined .never r is);
+    asked = joined .asked;
+    simple = none;
+    asks = asking-so;
+  }
+    where
+      none : Simply b after
+      none v m to (setting w e) l known formed stands fits =
+          let z : _≡_ {A = ℕ} 0 1 = cc (set-role v e (Store w) l (formed .1) stands) in absurd (omega arith)
+      none v m to (send e) l known formed stands fits =
+          let z : _≡_ {A = ℕ} 0 1 = cc (set-role v e Send l formed stands) in absurd (omega arith)
+      none v m to (goto a) l known formed stands fits =
+          let z : _≡_ {A = ℕ} 0 1 = cc (ap (λ k. roleOf first (firstOrder k)) stands) in absurd (omega arith)
+
+      asking-so : Asking b after
+      asking-so v m to (compares r x y) d l known formed stands far fits =
+          let z : _≡_ {A = ℕ} 0 1 = cc (if-role v (compares r x y) d l formed stands) in absurd (omega arith)
+      asking-so v m to (joins w x y) d l known formed stands far fits =
+          let its : many ≡ comparisons (joins w x y) = cc (if-role v (joins w x y) d l formed stands) in
+          joined .asks v w x y d l (known .start) (known .few) formed its stands far fits
+
   pub begin-missing : (q : Role) → q ≡ here → Unbegun q → Beginning os table first s fs Missing fs
   begin-missing q known unbegun = record {
     kept = refl;
     whole = λ r is. let z : _≡_ {A = ℕ} 0 1 = cc in absurd (omega arith);
     asked = λ r a is. let z : _≡_ {A = ℕ} 0 1 = cc in absurd (omega arith);
     simple = none;
-    asks = λ v m to p c d l sheet formed stands fits.
-        absurd (subst Unbegun (known ∙ ap (λ k. roleOf first (firstOrder k)) stands ∙ asking-role first v p c d formed l) unbegun);
+    asks = no-asking;
   }
     where
+      no-asking : Asking Missing fs
+      no-asking v m to (compares r x y) d l sheet formed stands far fits =
+          absurd (subst Unbegun (known ∙ if-role v (compares r x y) d l formed stands) unbegun)
+      no-asking v m to (joins w x y) d l sheet formed stands far fits =
+          absurd (subst Unbegun (known ∙ if-role v (joins w x y) d l formed stands) unbegun)
+
       none : Simply Missing fs
       none v m to (setting w e) l sheet formed stands fits = absurd (subst Unbegun (known ∙ set-role v e (Store w) l (formed .1) stands) unbegun)
       none v m to (send e) l sheet formed stands fits = absurd (subst Unbegun (known ∙ set-role v e Send l formed stands) unbegun)

@@ -10,12 +10,12 @@ use Rattle.base.specs.Choice.{pick}
 use Rattle.base.proofs.Cases.{chosen-first}
 use Rattle.sheet.specs.declared.Field.{Field}
 use Rattle.sheet.specs.declared.Field.the-variants.{Else, Start, Finish}
-use Rattle.sheet.specs.Fields.{partFields}
+use Rattle.sheet.specs.Memory.{partFields}
 use Rattle.untranslate_expression.specs.declared.Spot.{Spot}
 use Rattle.untranslate_expression.specs.Internal.{Put}
 use Rattle.untranslate_expression.proofs.Places.{writes-more, safe-more}
 use Rattle.untranslate_part.specs.declared.Role.{Role}
-use Rattle.untranslate_part.specs.declared.Role.the-variants.{Inside, Last, Goto, Branch as Branches, Skip as Skips, Stop as Stops}
+use Rattle.untranslate_part.specs.declared.Role.the-variants.{Inside, Last, Goto, Branch as Branches, Cond as Conds, Skip as Skips, Stop as Stops}
 use Rattle.untranslate_part.specs.declared.Parts.{Parts}
 use Rattle.untranslate_part.specs.declared.Parts.the-variants.{One, Two, Missing}
 use Rattle.untranslate_part.specs.declared.Turn.the-variants.{More, Done}
@@ -42,6 +42,7 @@ one-on at to end r q e =
     by-role (Last f) e = cc
     by-role (Goto a) e = cc
     by-role (Branches t a) e = cc
+    by-role (Conds n) e = cc
     by-role (Skips z) e =
         let a = chosen-first (ltb to z) _ Missing (One q) (λ z. let no : _≡_ {A = ℕ} 0 1 = cc in omega arith) e in
         let b = chosen-first (leb z end) _ Missing (One q) (λ z. let no : _≡_ {A = ℕ} 0 1 = cc in omega arith) (a .1) in
@@ -60,6 +61,7 @@ two-on at to end r q p z e =
     by-role (Last f) e = let no : _≡_ {A = ℕ} 0 1 = cc in absurd (omega arith)
     by-role (Goto a) e = let no : _≡_ {A = ℕ} 0 1 = cc in absurd (omega arith)
     by-role (Branches t a) e = let no : _≡_ {A = ℕ} 0 1 = cc in absurd (omega arith)
+    by-role (Conds n) e = let no : _≡_ {A = ℕ} 0 1 = cc in absurd (omega arith)
     by-role (Skips k) e =
         let a = chosen-first (ltb to k) _ Missing (Two q p z) (λ z. let no : _≡_ {A = ℕ} 0 1 = cc in omega arith) e in
         let b = chosen-first (leb k end) _ Missing (Two q p z) (λ z. let no : _≡_ {A = ℕ} 0 1 = cc in omega arith) (a .1) in

@@ -1,16 +1,14 @@
 -- Where the orders of instructions stand: the first instruction of a list, its parts, and what is behind it.
-use Prim.Native.Nat.{ℕ, zero, suc, _+_, _-_, _≤_, _<_}
+use Prim.Native.Nat.{ℕ, _+_, _-_, _≤_, _<_}
 use mathlib.Core.Path.{_≡_, refl, sym, ap, _∙_}
 use mathlib.Core.Bool.{Bool, true, false}
-use mathlib.Core.List.{List, [], _∷_, _++_, map, append-assoc}
+use mathlib.Core.List.{List, [], _∷_, _++_, append-assoc}
 use native.Mathlib.Omega.{arith}
 use lib.Dec.{ltb}
-use lib.ListN.{length, getD, drop, length-append, length-map, length-drop}
-use lib.Seq.{drop-drop, drop-append-seam}
+use lib.ListN.{length, getD, length-append}
 use Rattle.base.specs.Choice.{pick}
 use Rattle.order.specs.declared.Order.{Order}
-use Rattle.order.specs.declared.Order.the-variants.{Word, Number, Store, Neg, Not, Jump, Skip, Branch, Send, Stop}
-use Rattle.order.specs.Memory.{orderIn}
+use Rattle.order.specs.declared.Order.the-variants.{Word, Number, Store, Neg, Not, Jump, Skip, Branch, Cond, Send, Stop}
 use Rattle.sheet.specs.declared.Field.the-variants.{Set}
 use Rattle.sheet.specs.Sheet.{Simple, Condition, Part, plain, when, either}
 use Rattle.sheet.specs.Orders.{simpleCode, simpleSize}
@@ -22,44 +20,12 @@ use Rattle.sheet.specs.Guess.{isSkip}
 use Rattle.sheet.proofs.Sizes.{simple-length, asking-length, code-length, count-size}
 use Rattle.sheet.proofs.Lasts.{no-skip-last}
 use Rattle.untranslate_expression.specs.Internal.{ordersAt, firstOrder}
+use Rattle.untranslate_condition.proofs.Places.{orders-past, place-told, order-told}
 use Rattle.untranslate_part.specs.declared.Role.the-variants.{Inside, Last, Skip as Skips}
 use Rattle.untranslate_part.specs.declared.Parts.the-variants.{One}
 use Rattle.untranslate_part.specs.Internal.{roleOf, roleAt, partsBy, Stands}
 
--- ---- orders by their places
-
-orders-length : (at : ℕ) (os : List ℕ) → length (ordersAt at os) ≡ length os - at
-orders-length at os = length-map (drop at os) orderIn ∙ length-drop at os
-
-drop-map : {A B : Type 0} (f : A → B) (k : ℕ) (l : List A) → map f (drop k l) ≡ drop k (map f l)
-drop-map f zero l = refl
-drop-map f (suc k) [] = refl
-drop-map f (suc k) (a ∷ l) = drop-map f k l
-
-orders-on : (os : List ℕ) (p k : ℕ) → ordersAt (p + k) os ≡ drop k (ordersAt p os)
-orders-on os p k = ap (map orderIn) (sym (drop-drop k p os)) ∙ drop-map orderIn k (drop p os)
-
-orders-past : (os : List ℕ) (p q : ℕ) (c l : List Order) → ordersAt p os ≡ c ++ l → p + length c ≡ q → ordersAt q os ≡ l
-orders-past os p q c l e there = ap (λ k. ordersAt k os) (sym there) ∙ orders-on os p (length c) ∙ ap (drop (length c)) e ∙ drop-append-seam c l
-
--- what is left tells the place
-place-told :
-    (os : List ℕ) (p r : ℕ) (c l : List Order)
-    → ordersAt p os ≡ c ++ l
-    → ordersAt r os ≡ l
-    → 1 ≤ length l
-    → r ≡ p + length c
-place-told os p r c l e g some =
-    omega (arith, orders-length p os, ap length e, length-append c l, orders-length r os, ap length g)
-
-first-dropped : (k : ℕ) (l : List Order) → firstOrder (drop k l) ≡ getD l k Stop
-first-dropped zero [] = refl
-first-dropped zero (o ∷ l) = refl
-first-dropped (suc k) [] = refl
-first-dropped (suc k) (o ∷ l) = first-dropped k l
-
-order-told : (os : List ℕ) (p k q : ℕ) → p + k ≡ q → firstOrder (ordersAt q os) ≡ getD (ordersAt p os) k Stop
-order-told os p k q there = ap (λ n. firstOrder (ordersAt n os)) (sym there) ∙ ap firstOrder (orders-on os p k) ∙ first-dropped k (ordersAt p os)
+-- ---- which parts there are
 
 -- where the order before a branch's target is no SKIP there is one part
 store-alone : (t : Bool) (w to q : ℕ) → partsBy to q (pick t (Last (Set w)) Inside) ≡ One to
@@ -76,6 +42,7 @@ alone first to q Not e = refl
 alone first to q (Jump a) e = refl
 alone first to q (Skip a) e = let z : _≡_ {A = ℕ} 0 1 = cc in absurd (omega arith)
 alone first to q (Branch r a) e = refl
+alone first to q (Cond n) e = refl
 alone first to q Send e = refl
 alone first to q Stop e = refl
 
@@ -120,6 +87,7 @@ module _ (os table : List ℕ) (first p q deep v m : ℕ) (to : ℕ → ℕ) (re
     pub others : List Order
     pub formed : ConditionFormed v c
     pub codes : ordersAt p os ≡ askingCode v p c z ++ left
+    pub ahead : p + asking v c < z
     pub part : (r : ℕ) → ordersAt r os ≡ left → (r < z) × Stands os table first r z (deep - 1) v m to x others
     pub behind : (r : ℕ) → r ≡ z → Stands os table first r q deep v m to l rest
     pub levels : 1 ≤ deep
@@ -148,6 +116,7 @@ module _ (os table : List ℕ) (first p q deep v m : ℕ) (to : ℕ → ℕ) (re
         others = ls ++ rest;
         formed = s .formed .0;
         codes = here;
+        ahead = omega arith;
         part = λ r left.
             let there : b ≡ r = sym (place-told os p r cs (xs ++ (ls ++ rest)) here left (omega (arith, more, length-append xs (ls ++ rest))) ∙ ap (λ n. p + n) asked) in (
               omega arith,
@@ -185,6 +154,7 @@ module _ (os table : List ℕ) (first p q deep v m : ℕ) (to : ℕ → ℕ) (re
     pub behind-second : List Order
     pub formed : ConditionFormed v c
     pub codes : ordersAt p os ≡ askingCode v p c d ++ left
+    pub ahead : p + asking v c < d
     pub part : (r : ℕ) → ordersAt r os ≡ left → (r < d) × Stands os table first r (d - 1) (deep - 1) v m to x others
     pub second : Stands os table first d z (deep - 1) v m to y behind-second
     pub behind : (r : ℕ) → r ≡ z → Stands os table first r q deep v m to l rest
@@ -228,6 +198,7 @@ module _ (os table : List ℕ) (first p q deep v m : ℕ) (to : ℕ → ℕ) (re
         behind-second = ls ++ rest;
         formed = s .formed .0;
         codes = here;
+        ahead = omega arith;
         part = λ r left.
             let there : b ≡ r = sym (place-told os p r cs (xs ++ tail) here left (omega (arith, length-append xs tail)) ∙ ap (λ n. p + n) asked) in (
               omega arith,

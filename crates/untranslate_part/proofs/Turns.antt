@@ -8,7 +8,8 @@ use Rattle.order.specs.declared.Order.{Order}
 use Rattle.sheet.specs.declared.Field.{Field}
 use Rattle.sheet.specs.declared.Field.the-variants.{Else, Start, Finish, If}
 use Rattle.sheet.specs.Sheet.{Condition, Part, end, plain, when, either}
-use Rattle.sheet.specs.Fields.{simpleFields, conditionFields, partFields}
+use Rattle.sheet.specs.Fields.{simpleFields}
+use Rattle.sheet.specs.Memory.{conditionFields, partFields}
 use Rattle.sheet.specs.Translation.{size}
 use Rattle.sheet.proofs.Sizes.{simple-some, asking-some}
 use Rattle.untranslate_expression.specs.declared.Spot.{Spot}
@@ -81,12 +82,12 @@ module _ (os table : List ℕ) (q first deep : ℕ) (s : Spot) (fs : List ℕ) w
       onward inside n last next v m to (when c x l) rest st room =
           let a = when-stands os table first (s .at) q deep v m to rest c x l st in
           let all = length-append (conditionFields c) (Start ∷ (partFields x ++ (Finish ∷ partFields l))) in
-          let g = begun .asks v m to (s .at) c (a .z) (a .left) (st .known) (a .formed) (a .codes) (omega arith) in
+          let g = begun .asks v m to c (a .z) (a .left) (st .known) (a .formed) (a .codes) (a .ahead) (omega arith) in
           absurd (whole-asked whole (g .is))
       onward inside n last next v m to (either c x y l) rest st room =
           let a = either-stands os table first (s .at) q deep v m to rest c x y l st in
           let all = length-append (conditionFields c) (Start ∷ (partFields x ++ (Else ∷ (partFields y ++ (Finish ∷ partFields l))))) in
-          let g = begun .asks v m to (s .at) c (a .d) (a .left) (st .known) (a .formed) (a .codes) (omega arith) in
+          let g = begun .asks v m to c (a .d) (a .left) (st .known) (a .formed) (a .codes) (a .ahead) (omega arith) in
           absurd (whole-asked whole (g .is))
 
   -- it is missing
@@ -116,12 +117,12 @@ module _ (os table : List ℕ) (q first deep : ℕ) (s : Spot) (fs : List ℕ) w
       never inside v m to (when c x l) rest st room =
           let a = when-stands os table first (s .at) q deep v m to rest c x l st in
           let all = length-append (conditionFields c) (Start ∷ (partFields x ++ (Finish ∷ partFields l))) in
-          let g = begun .asks v m to (s .at) c (a .z) (a .left) (st .known) (a .formed) (a .codes) (omega arith) in
+          let g = begun .asks v m to c (a .z) (a .left) (st .known) (a .formed) (a .codes) (a .ahead) (omega arith) in
           missing-asked missing (g .is)
       never inside v m to (either c x y l) rest st room =
           let a = either-stands os table first (s .at) q deep v m to rest c x y l st in
           let all = length-append (conditionFields c) (Start ∷ (partFields x ++ (Else ∷ (partFields y ++ (Finish ∷ partFields l))))) in
-          let g = begun .asks v m to (s .at) c (a .d) (a .left) (st .known) (a .formed) (a .codes) (omega arith) in
+          let g = begun .asks v m to c (a .d) (a .left) (st .known) (a .formed) (a .codes) (a .ahead) (omega arith) in
           missing-asked missing (g .is)
 
   -- it is an IF, of which the parts are read
@@ -145,7 +146,7 @@ module _ (os table : List ℕ) (q first deep : ℕ) (s : Spot) (fs : List ℕ) w
         let all = length-append (conditionFields c) (Start ∷ (partFields x ++ (Finish ∷ partFields l))) in
         let parts = length-append (partFields x) (Finish ∷ partFields l) in
         let ends = length-append (partFields x) (Finish ∷ []) in
-        let g = begun .asks v m to (s .at) c (k .z) (k .left) (st .known) (k .formed) (k .codes) (omega arith) in
+        let g = begun .asks v m to c (k .z) (k .left) (st .known) (k .formed) (k .codes) (k .ahead) (omega arith) in
         let its = asked-same (g .is) asked in
         let same = its .0 in
         let there = its .1 in
@@ -171,7 +172,7 @@ module _ (os table : List ℕ) (q first deep : ℕ) (s : Spot) (fs : List ℕ) w
         let seconds = length-append (partFields y) (Finish ∷ partFields l) in
         let ends = length-append (partFields x) (Else ∷ (partFields y ++ (Finish ∷ []))) in
         let second-ends = length-append (partFields y) (Finish ∷ []) in
-        let g = begun .asks v m to (s .at) c (k .d) (k .left) (st .known) (k .formed) (k .codes) (omega arith) in
+        let g = begun .asks v m to c (k .d) (k .left) (st .known) (k .formed) (k .codes) (k .ahead) (omega arith) in
         let its = asked-same (g .is) asked in
         let same = its .0 in
         let there = its .1 in

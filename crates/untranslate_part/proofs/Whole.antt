@@ -47,7 +47,7 @@ module _ (os : List ℕ) (v : ℕ) (fs : List ℕ) where
 
   pub guess-read :
       (base table : List ℕ)
-      → table ≡ sets base 0 (numbers (v + 2) true 1 (ordersIn os))
+      → table ≡ sets base 0 (numbers (v + 2) true 0 1 (ordersIn os))
       → length os ≤ length base
       → (r : ℕ) (after : List ℕ)
       → Parting os table 0 (length os - 1) (v + 2) mostLevels fs 0 r after
@@ -62,7 +62,7 @@ module _ (os : List ℕ) (v : ℕ) (fs : List ℕ) where
           known = record {
             start = refl;
             few = omega arith;
-            leads = table-leads v x formed base table (filled ∙ ap (λ l. sets base 0 (numbers (v + 2) true 1 l)) same)
+            leads = table-leads v x formed base table (filled ∙ ap (λ l. sets base 0 (numbers (v + 2) true 0 1 l)) same)
                 (omega (arith, fits, length-map os orderIn, ap length same));
           };
           formed = formed;

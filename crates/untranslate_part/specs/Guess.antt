@@ -9,7 +9,7 @@ use Rattle.order.specs.Memory.{ordersIn}
 use Rattle.sheet.specs.Sheet.{Part, count, sheet}
 use Rattle.sheet.specs.Translation.{translation}
 use Rattle.sheet.specs.Within.{PartFormed, depth, mostLevels}
-use Rattle.sheet.specs.Fields.{partFields}
+use Rattle.sheet.specs.Memory.{partFields}
 use Rattle.sheet_field.specs.Memory.{fieldWord}
 
 -- the fields of x, from the front of the array on, and how many they are

@@ -3,20 +3,22 @@ use Prim.Native.Nat.{ℕ, suc, _+_, _-_, _≤_, _<_}
 use mathlib.Core.Path.{_≡_}
 use mathlib.Core.Bool.{Bool, true, false}
 use mathlib.Core.List.{List, [], _∷_, _++_}
-use lib.Dec.{ltb, leb}
+use lib.Dec.{ltb, leb, eqb}
 use lib.ListN.{length, getD}
 use lib.Seq.{sets}
 use Rattle.base.specs.Choice.{pick}
 use Rattle.word.specs.declared.Relation.{Relation}
 use Rattle.order.specs.declared.Order.{Order}
-use Rattle.order.specs.declared.Order.the-variants.{Word, Number, Store, Neg, Not, Jump, Skip, Branch, Send, Stop}
+use Rattle.order.specs.declared.Order.the-variants.{Word, Number, Store, Neg, Not, Jump, Skip, Branch, Cond, Send, Stop}
+use Rattle.sheet.specs.declared.Joining.{Joining}
 use Rattle.sheet.specs.declared.Field.{Field}
 use Rattle.sheet.specs.declared.Field.the-variants.{Else, Start, Finish, If, Send as SendField, Compare, Set}
-use Rattle.sheet.specs.Sheet.{Expression, Simple, Condition, Part}
-use Rattle.sheet.specs.Fields.{expressionFields, simpleFields, conditionFields, partFields}
-use Rattle.sheet.specs.Orders.{code, simpleCode, opposite}
+use Rattle.sheet.specs.Sheet.{Expression, Simple, Condition, compares, joins, Part}
+use Rattle.sheet.specs.Fields.{expressionFields, simpleFields}
+use Rattle.sheet.specs.Memory.{conditionFields, partFields}
+use Rattle.sheet.specs.Orders.{code, simpleCode, comparisonCode, opposite}
 use Rattle.sheet.specs.Formed.{Expressed, Leads, SimpleFormed}
-use Rattle.sheet.specs.Condition.{askingCode, ConditionFormed}
+use Rattle.sheet.specs.Condition.{comparisons, asking, askingCode, ConditionFormed}
 use Rattle.sheet.specs.Translation.{size, partCode}
 use Rattle.sheet.specs.Within.{PartFormed, depth}
 use Rattle.sheet_field.specs.Memory.{fieldWord}
@@ -24,7 +26,7 @@ use Rattle.untranslate_expression.specs.declared.Link.the-variants.{End}
 use Rattle.untranslate_expression.specs.declared.Spot.{Spot}
 use Rattle.untranslate_expression.specs.Internal.{ordersAt, firstOrder, linkOf, Writes, Safe, Wrote}
 use Rattle.untranslate_part.specs.declared.Role.{Role}
-use Rattle.untranslate_part.specs.declared.Role.the-variants.{Inside, Last, Goto, Branch as Branches, Skip as Skips, Stop as Stops}
+use Rattle.untranslate_part.specs.declared.Role.the-variants.{Inside, Last, Goto, Branch as Branches, Cond as Conds, Skip as Skips, Stop as Stops}
 use Rattle.untranslate_part.specs.declared.Begun.{Begun}
 use Rattle.untranslate_part.specs.declared.Begun.the-variants.{Whole, Asked}
 use Rattle.untranslate_part.specs.declared.Parts.{Parts}
@@ -43,27 +45,39 @@ roleOf first Not = Inside
 roleOf first (Jump a) = Goto a
 roleOf first (Skip a) = Skips a
 roleOf first (Branch r a) = Branches r a
+roleOf first (Cond n) = Conds n
 roleOf first Send = Last SendField
 roleOf first Stop = Stops
 
 abbrev pub roleAt : ℕ → ℕ → List ℕ → Role
 roleAt first at os = roleOf first (firstOrder (ordersAt at os))
 
--- ---- the numbers of instructions: `isLast`, `ofInstruction` and `beginnings` of sheet, told from roles
+-- ---- the numbers of instructions: `inner`, `isLast`, `ofInstruction` and `beginnings` of sheet, told from roles
 
-abbrev pub endsBy : Role → Bool
-endsBy Inside = false
-endsBy (Last f) = true
-endsBy (Goto a) = true
-endsBy (Branches r a) = true
-endsBy (Skips a) = true
-endsBy Stops = false
+abbrev pub innerBy : ℕ → Role → ℕ
+innerBy k Inside = k
+innerBy k (Last f) = k
+innerBy k (Goto a) = k
+innerBy k (Branches r a) = k - 1
+innerBy k (Conds n) = n - 1
+innerBy k (Skips a) = k
+innerBy k Stops = k
+
+abbrev pub endsBy : ℕ → Role → Bool
+endsBy k Inside = false
+endsBy k (Last f) = true
+endsBy k (Goto a) = true
+endsBy k (Branches r a) = eqb k 0
+endsBy k (Conds n) = false
+endsBy k (Skips a) = true
+endsBy k Stops = false
 
 abbrev pub beginsBy : Role → Bool
 beginsBy Inside = true
 beginsBy (Last f) = true
 beginsBy (Goto a) = true
 beginsBy (Branches r a) = true
+beginsBy (Conds n) = true
 beginsBy (Skips a) = false
 beginsBy Stops = false
 
@@ -72,12 +86,15 @@ beginsBy Stops = false
 abbrev pub numberBehind : Bool → Role → ℕ → ℕ
 numberBehind here q n = pick here (pick (beginsBy q) (suc n) n) n
 
--- for each order the number of the instruction that begins with it, or of the next that begins
-unfoldable pub numbers : ℕ → Bool → ℕ → List Order → List ℕ
-numbers first here n [] = []
-numbers first here n (o ∷ l) = n ∷ numbers first (endsBy (roleOf first o)) (numberBehind here (roleOf first o) n) l
+-- for each order the number of the instruction that begins with it, or of the next that begins; k branches are to come that do not end
+-- their IF
+unfoldable pub numbers : ℕ → Bool → ℕ → ℕ → List Order → List ℕ
+numbers first here k n [] = []
+numbers first here k n (o ∷ l) =
+    n
+    ∷ numbers first (endsBy k (roleOf first o)) (innerBy k (roleOf first o)) (numberBehind here (roleOf first o) n) l
 
--- ---- one instruction
+-- ---- an expression or one comparison, and the order behind it
 
 pub record IfPut (s : Relation) (n : ℕ) (fs after : List ℕ) : Type 0 where
   pub kept : length after ≡ length fs
@@ -111,13 +128,34 @@ pub record Chained (os : List ℕ) (first : ℕ) (s : Spot) (fs : List ℕ) (b :
       → s .n + length (f ∷ expressionFields e) ≤ length fs
       → Gives (λ r. Whole r) b os (f ∷ expressionFields e) l (s .n) fs after
   pub asks :
-      (v p : ℕ) (c : Condition) (d : ℕ) (l : List Order)
+      (v : ℕ) (r : Relation) (x y : Expression) (d : ℕ) (l : List Order)
       → first ≡ v + 2
       → first + length os ≤ 4294967295
-      → ConditionFormed v c
-      → ordersAt (s .at) os ≡ askingCode v p c d ++ l
-      → s .n + length (If ∷ conditionFields c) ≤ length fs
-      → Gives (λ r. Asked r d) b os (If ∷ conditionFields c) l (s .n) fs after
+      → Expressed v x
+      → Expressed v y
+      → ordersAt (s .at) os ≡ comparisonCode v x y ++ (Branch (opposite r) d ∷ l)
+      → s .n + length (If ∷ conditionFields (compares r x y)) ≤ length fs
+      → Gives (λ r. Asked r d) b os (If ∷ conditionFields (compares r x y)) l (s .n) fs after
+
+-- ---- COND and a joined condition
+
+-- whatever joined condition stands at a place, where COND has the number `many`
+pub record Joined (os : List ℕ) (first : ℕ) (s : Spot) (many : ℕ) (fs : List ℕ) (b : Begun) (after : List ℕ) : Type 0 where
+  pub kept : length after ≡ length fs
+  pub never : (r : Spot) → b ≡ Whole r → ⊥
+  pub asked : (r : Spot) (a : ℕ) → b ≡ Asked r a → Further s fs r after
+  pub asks :
+      (v : ℕ) (w : Joining) (x y : Condition) (d : ℕ) (l : List Order)
+      → first ≡ v + 2
+      → first + length os ≤ 4294967295
+      → ConditionFormed v (joins w x y)
+      → many ≡ comparisons (joins w x y)
+      → ordersAt (s .at) os ≡ askingCode v (s .at) (joins w x y) d ++ l
+      → s .at + asking v (joins w x y) < d
+      → s .n + length (If ∷ conditionFields (joins w x y)) ≤ length fs
+      → Gives (λ r. Asked r d) b os (If ∷ conditionFields (joins w x y)) l (s .n) fs after
+
+-- ---- an instruction by its first order
 
 -- what is known of a sheet: `to` gives the address that GOTO s leads to, and the table the number of that address
 pub record Known (os table : List ℕ) (first v m : ℕ) (to : ℕ → ℕ) : Type 0 where
@@ -138,14 +176,15 @@ pub record Beginning (os table : List ℕ) (first : ℕ) (s : Spot) (fs : List �
       → s .n + length (simpleFields u) ≤ length fs
       → Gives (λ r. Whole r) b os (simpleFields u) l (s .n) fs after
   pub asks :
-      (v m : ℕ) (to : ℕ → ℕ) (p : ℕ) (c : Condition) (d : ℕ) (l : List Order)
+      (v m : ℕ) (to : ℕ → ℕ) (c : Condition) (d : ℕ) (l : List Order)
       → Known os table first v m to
       → ConditionFormed v c
-      → ordersAt (s .at) os ≡ askingCode v p c d ++ l
+      → ordersAt (s .at) os ≡ askingCode v (s .at) c d ++ l
+      → s .at + asking v c < d
       → s .n + length (If ∷ conditionFields c) ≤ length fs
       → Gives (λ r. Asked r d) b os (If ∷ conditionFields c) l (s .n) fs after
 
--- ---- instructions
+-- ---- instructions one behind the other
 
 -- the order before `to` is a SKIP exactly where there is a second part
 abbrev pub partsBy : ℕ → ℕ → Role → Parts
@@ -153,6 +192,7 @@ partsBy to end Inside = One to
 partsBy to end (Last f) = One to
 partsBy to end (Goto a) = One to
 partsBy to end (Branches r a) = One to
+partsBy to end (Conds n) = One to
 partsBy to end (Skips z) = pick (ltb to z) (pick (leb z end) (Two (to - 1) to z) Missing) Missing
 partsBy to end Stops = One to
 

@@ -1,10 +1,16 @@
-// From the orders of a sheet, document 01 ("Translation") and 02, L1, back to its fields: right where the orders are a translation. Crate
-// untranslate checks the fields that come out, translates them again and compares.
+// From the orders of a sheet, document 01 ("Translation") and 02, L1 and L5, back to its fields: right where the orders are a translation.
+// Crate untranslate checks the fields that come out, translates them again and compares.
 use order::Order;
 use order_number::order_in;
 use sheet::Field;
+use sheet_field::MOST_COMPARISONS;
 use sheet_field::MOST_LEVELS;
 use sheet_field::opposite_of;
+use untranslate_condition::Lead;
+use untranslate_condition::lead_at;
+use untranslate_condition::less;
+use untranslate_condition::past_branches;
+use untranslate_condition::read_condition;
 use untranslate_expression::Spot;
 use untranslate_expression::order_at;
 use untranslate_expression::past;
@@ -18,20 +24,21 @@ ghost use lib.ListN.{length, getD};
 ghost use lib.Seq.{sets};
 ghost use Rattle.order.specs.Limits.{mostOrders};
 ghost use Rattle.order.specs.Memory.{ordersIn};
-ghost use Rattle.untranslate_part.specs.Internal.{roleOf, roleAt, endsBy, numberBehind, numbers, partsOf};
-ghost use Rattle.untranslate_part.specs.Internal.{IfPut, Chained, Beginning, Parting, Grouping, Choosing, Turning};
+ghost use Rattle.untranslate_part.specs.Internal.{roleOf, roleAt, endsBy, innerBy, numberBehind, numbers, partsOf};
+ghost use Rattle.untranslate_part.specs.Internal.{IfPut, Chained, Joined, Beginning, Parting, Grouping, Choosing, Turning};
 ghost use Rattle.untranslate_part.specs.Guess.{Guessing};
 
 // `mostOrders` of order's specs/Limits.antt.
 const MOST_ORDERS: usize = order::MOST_ORDERS as usize;
 
 // What an order is to the instructions: inside one; the last of one with an expression, whose first field is told; a jump, a branch,
-// a SKIP, STOP.
+// COND, a SKIP, STOP.
 pub enum Role {
     Inside,
     Last(Field),
     Goto(u32),
     Branch(Relation, u32),
+    Cond(u32),
     Skip(u32),
     Stop,
 }
@@ -76,6 +83,7 @@ fn role_of(o: Order, first: u32) -> Role
         Order::Jump(a) => Role::Goto(a),
         Order::Skip(a) => Role::Skip(a),
         Order::Branch(s, a) => Role::Branch(s, a),
+        Order::Cond(n) => Role::Cond(n),
         Order::Send => Role::Last(Field::Send),
         Order::Stop => Role::Stop,
     }
@@ -89,15 +97,33 @@ fn role_at(orders: &[u64], at: usize, first: u32) -> Role
 
 // ---- the numbers of instructions
 
-// Whether an instruction begins behind an order, if that is an instruction's.
-fn ends(q: Role) -> bool
-    ensures { λ r. ⌜ r ≡ endsBy q ⌝ }
+// How many branches are yet to come behind an order that do not end their IF, where there were k before it: COND has the number of all
+// the branches of its IF.
+fn inner(q: Role, k: u32) -> u32
+    ensures { λ r. ⌜ r ≡ innerBy k q ⌝ }
+{
+    match q {
+        Role::Inside => k,
+        Role::Last(_) => k,
+        Role::Goto(_) => k,
+        Role::Branch(_, _) => less(k),
+        Role::Cond(n) => less(n),
+        Role::Skip(_) => k,
+        Role::Stop => k,
+    }
+}
+
+// Whether an instruction begins behind an order, if that is an instruction's, where k branches were yet to come that do not end their
+// IF.
+fn ends(q: Role, k: u32) -> bool
+    ensures { λ r. ⌜ r ≡ endsBy k q ⌝ }
 {
     match q {
         Role::Inside => false,
         Role::Last(_) => true,
         Role::Goto(_) => true,
-        Role::Branch(_, _) => true,
+        Role::Branch(_, _) => k == 0,
+        Role::Cond(_) => false,
         Role::Skip(_) => true,
         Role::Stop => false,
     }
@@ -114,6 +140,7 @@ fn number_behind(here: bool, q: Role, n: u32) -> u32
             Role::Last(_) => n + 1,
             Role::Goto(_) => n + 1,
             Role::Branch(_, _) => n + 1,
+            Role::Cond(_) => n + 1,
             Role::Skip(_) => n,
             Role::Stop => n,
         };
@@ -125,16 +152,18 @@ fn number_behind(here: bool, q: Role, n: u32) -> u32
 fn number_all(orders: &[u64], first: u32, table: &mut [u32])
     requires few { ⌜ length (now orders) ≤ mostOrders ⌝ }
     requires room { ⌜ length (now orders) ≤ length (now table) ⌝ }
-    ensures { λ _. ⌜ now (table .exit) ≡ sets (now (table .entry)) 0 (numbers first true 1 (ordersIn (now (orders .entry)))) ⌝ }
+    ensures { λ _. ⌜ now (table .exit) ≡ sets (now (table .entry)) 0 (numbers first true 0 1 (ordersIn (now (orders .entry)))) ⌝ }
 {
     let mut i = 0;
     let mut here = true;
+    let mut k = 0;
     let mut n = 1;
     while i < orders.len() {
         table[i] = n;
         let q = role_of(order_in(orders[i]), first);
         n = number_behind(here, q, n);
-        here = ends(q);
+        here = ends(q, k);
+        k = inner(q, k);
         i += 1;
     }
 }
@@ -149,7 +178,7 @@ fn number_at(table: &[u32], a: u32) -> u32
     0
 }
 
-// ---- one instruction
+// ---- an expression or one comparison, and the order behind it
 
 // IF and the relation, which is the opposite of the branch's.
 fn put_if(fields: &mut [u64], n: usize, s: Relation)
@@ -188,12 +217,36 @@ fn read_chain(orders: &[u64], first: u32, fields: &mut [u64], s: Spot) -> Begun
                 a,
             )
         }
+        Role::Cond(_) => Begun::Missing,
         Role::Skip(_) => Begun::Missing,
         Role::Stop => Begun::Missing,
     }
 }
 
-// An instruction that is no IF, or an IF with its comparison.
+// ---- a joined condition
+
+// An IF that begins with COND, "whose number is the count of comparisons", to behind its last branch. The orders that are lent on end
+// there, so that none is read for a comparison of this IF and again for an instruction behind it.
+fn read_joined(orders: &[u64], first: u32, fields: &mut [u64], s: Spot, many: u32) -> Begun
+    requires { ⌜ s .at < length (now orders) ⌝ }
+    ensures { λ r. ⌜ Joined (now (orders .entry)) first s many (now (fields .entry)) r (now (fields .exit)) ⌝ }
+{
+    if MOST_COMPARISONS < many {
+        return Begun::Missing;
+    }
+    let p = s.at + 1;
+    let e = past_branches(orders, p, many);
+    let Lead::To(_, d) = lead_at(orders, e - 1) else {
+        return Begun::Missing;
+    };
+    let n = put_field(fields, s.n, Field::If);
+    let m = read_condition(&orders[..e], p, true, first, fields, n);
+    Begun::Asked(Spot { at: e, n: m }, d)
+}
+
+// ---- an instruction by its first order
+
+// An instruction that is no IF, or an IF with what it asks.
 fn begin(orders: &[u64], table: &[u32], first: u32, fields: &mut [u64], s: Spot) -> Begun
     ensures { λ r. ⌜ Beginning (now (orders .entry)) (now (table .entry)) first s (now (fields .entry)) r (now (fields .exit)) ⌝ }
 {
@@ -213,6 +266,7 @@ fn begin(orders: &[u64], table: &[u32], first: u32, fields: &mut [u64], s: Spot)
             })
         }
         Role::Branch(_, _) => Begun::Missing,
+        Role::Cond(many) => read_joined(orders, first, fields, s, many),
         Role::Skip(_) => Begun::Missing,
         Role::Stop => Begun::Missing,
     }
@@ -237,6 +291,7 @@ fn parts_at(orders: &[u64], at: usize, to: usize, end: usize, first: u32) -> Par
         Role::Last(_) => Parts::One(to),
         Role::Goto(_) => Parts::One(to),
         Role::Branch(_, _) => Parts::One(to),
+        Role::Cond(_) => Parts::One(to),
         Role::Skip(z) => {
             let far = z as usize;
             if far <= to {

@@ -1,8 +1,12 @@
 //! What the sheets of a test have, so that it can say what it covered.
 
+mod conditions;
+
+use crate::condition::Condition;
 use crate::sheet::{closings, depth, Expression, Line, Sheet, Simple};
 use crate::sheet::{OPERATORS, RELATIONS, SIGNS};
 use crate::translate::Translation;
+use conditions::Conditions;
 
 #[derive(Default)]
 pub struct Census {
@@ -12,6 +16,7 @@ pub struct Census {
     operators: [[usize; 2]; 10],
     /// The same for each relation.
     relations: [[usize; 2]; 6],
+    pub conditions: Conditions,
     /// SET, SEND and GOTO.
     simples: [usize; 3],
     /// IF with each of `PARTS` as its first part, and none or each of them as its second.
@@ -44,20 +49,22 @@ impl Census {
         for line in &sheet.lines {
             match line {
                 Line::Simple(simple) => self.simple(simple),
-                Line::If {
-                    relation,
-                    left,
-                    right,
-                } => {
-                    self.relations[*relation as usize][usize::from(!right.is_plain())] += 1;
-                    self.expression(left);
-                    self.expression(right);
-                }
+                Line::If(condition) => self.condition(condition),
                 Line::Else | Line::Finish => {}
             }
         }
         self.add_parts(&sheet.lines);
         self.add_gotos(&sheet.lines);
+    }
+
+    fn condition(&mut self, condition: &Condition) {
+        self.conditions.add(condition);
+        for only in condition.comparisons() {
+            let is_other = usize::from(!only.right.is_plain());
+            self.relations[only.relation as usize][is_other] += 1;
+            self.expression(&only.left);
+            self.expression(&only.right);
+        }
     }
 
     fn simple(&mut self, simple: &Simple) {
@@ -73,13 +80,11 @@ impl Census {
         let closings = closings(lines);
         let part = |place: usize| match &lines[place + 1] {
             Line::Simple(simple) if closings[place] == place + 2 => kind(simple),
-            Line::If { .. } if last_closing(&closings, lines, place + 1) + 1 == closings[place] => {
-                3
-            }
+            Line::If(_) if last_closing(&closings, lines, place + 1) + 1 == closings[place] => 3,
             _ => 4,
         };
         for (place, line) in lines.iter().enumerate() {
-            if let Line::If { .. } = line {
+            if let Line::If(_) = line {
                 let has_else = lines[closings[place]] == Line::Else;
                 let second = has_else.then(|| 1 + part(closings[place]));
                 self.ifs[part(place)][second.unwrap_or(0)] += 1;
@@ -122,9 +127,10 @@ impl Census {
         }
     }
 
-    /// Holds every form to having been met `least` times, and each two parts of an IF to a fifth of
-    /// that.
+    /// Holds every form to having been met `least` times, and each two parts of an IF, and the forms
+    /// of joined conditions, to a fifth of that.
     pub fn every_form(&self, source: &str, least: usize) {
+        self.conditions.every_form(source, least / 5);
         let met = |form: &str, count: usize| {
             assert!(count >= least, "{source}: {count} times {form}");
         };
@@ -214,7 +220,7 @@ fn parts_around(lines: &[Line]) -> Vec<Vec<usize>> {
         if let Line::Else | Line::Finish = line {
             open.pop();
         }
-        if let Line::If { .. } | Line::Else = line {
+        if let Line::If(_) | Line::Else = line {
             open.push(place);
         }
     }

@@ -1,8 +1,13 @@
-//! Sheets in few pieces: the nodes of all expressions stand in one list, so that none is allocated
-//! by itself. Source is read to such a sheet, and translating, reading back and writing work on it.
+//! Sheets in few pieces: the nodes of all expressions stand in one list, and the pieces of all
+//! conditions in another, so that none is allocated by itself. Source is read to such a sheet, and
+//! translating, reading back and writing work on it.
 
-use crate::sheet::{count, Expression, Line, Operator, Sheet, Sign, Simple};
-use crate::sheet::{OPERATORS, RELATIONS, SIGNS};
+mod conditions;
+
+pub use conditions::{Piece, Pieces, Run};
+
+use crate::sheet::{self, count, Expression, Operator, Sheet, Sign, Simple};
+use crate::sheet::{OPERATORS, SIGNS};
 use crate::text::put_number;
 
 /// Where a node stands in its list.
@@ -24,10 +29,14 @@ impl Node {
     }
 }
 
+/// A line of a compact sheet.
+pub type Line = sheet::Line<Place, Pieces>;
+
 pub struct Compact {
     pub variables: u32,
     pub nodes: Vec<Node>,
-    pub lines: Vec<Line<Place>>,
+    pub pieces: Vec<Piece>,
+    pub lines: Vec<Line>,
 }
 
 impl Compact {
@@ -35,6 +44,7 @@ impl Compact {
         Compact {
             variables,
             nodes: Vec::new(),
+            pieces: Vec::new(),
             lines: Vec::new(),
         }
     }
@@ -52,10 +62,22 @@ impl Compact {
     pub fn of(sheet: &Sheet) -> Compact {
         let mut compact = Compact::new(sheet.variables);
         for line in &sheet.lines {
-            let line = line.map(|expression| compact.put_all(expression));
+            let line = compact.put_line(line);
             compact.lines.push(line);
         }
         compact
+    }
+
+    /// Adds the nodes and pieces of a line, and gives the line, which is not added.
+    pub fn put_line(&mut self, line: &sheet::Line) -> Line {
+        match line {
+            sheet::Line::Simple(simple) => {
+                Line::Simple(simple.map(|expression| self.put_all(expression)))
+            }
+            sheet::Line::If(condition) => Line::If(self.put_condition(condition)),
+            sheet::Line::Else => Line::Else,
+            sheet::Line::Finish => Line::Finish,
+        }
     }
 
     /// Adds the nodes of an expression, and gives the place of the last.
@@ -73,12 +95,17 @@ impl Compact {
     }
 
     pub fn sheet(&self) -> Sheet {
-        let lines = self.lines.iter();
+        let line = |line: &Line| match line {
+            Line::Simple(simple) => {
+                sheet::Line::Simple(simple.map(|place| self.expression(*place)))
+            }
+            Line::If(condition) => sheet::Line::If(self.condition(*condition)),
+            Line::Else => sheet::Line::Else,
+            Line::Finish => sheet::Line::Finish,
+        };
         Sheet {
             variables: self.variables,
-            lines: lines
-                .map(|line| line.map(|place| self.expression(*place)))
-                .collect(),
+            lines: self.lines.iter().map(line).collect(),
         }
     }
 
@@ -115,18 +142,12 @@ impl Compact {
     /// "In a sheet an IF line ends with its expressions; a line `START`, the first part, where there
     /// is a second a line `ELSE` and that part, and a line `FINISH` follow, a lone u as a group of
     /// one."
-    fn write(&self, text: &mut Vec<u8>, line: &Line<Place>) {
+    fn write(&self, text: &mut Vec<u8>, line: &Line) {
         match line {
             Line::Simple(simple) => self.write_simple(text, simple),
-            Line::If {
-                relation,
-                left,
-                right,
-            } => {
-                text.extend_from_slice(b"IF\t");
-                text.extend_from_slice(RELATIONS[*relation as usize].1.as_bytes());
-                self.write_expression(text, *left);
-                self.write_expression(text, *right);
+            Line::If(condition) => {
+                text.extend_from_slice(b"IF");
+                self.write_condition(text, *condition);
                 text.extend_from_slice(b"\nSTART");
             }
             Line::Else => text.extend_from_slice(b"ELSE"),

@@ -1,14 +1,20 @@
 //! How many orders and temporaries the translation of a line has, without translating it.
 
-use crate::compact::{Compact, Node, Place};
-use crate::sheet::{Line, Simple};
+use crate::compact::{Compact, Line, Node, Piece, Pieces, Place};
+use crate::condition::{Comparison, Condition};
+use crate::sheet::{self, Simple};
 
 /// How many orders a line has, and how many temporaries it uses.
-pub fn counts(line: &Line) -> (u32, u32) {
+pub fn counts(line: &sheet::Line) -> (u32, u32) {
     let mut compact = Compact::new(0);
-    let line = line.map(|expression| compact.put_all(expression));
+    let line = compact.put_line(line);
     let count = compact.count(&line);
     (count.orders, count.temporaries)
+}
+
+/// How many orders a comparison has, its branch included.
+pub fn comparison_orders(comparison: &Comparison) -> u32 {
+    counts(&sheet::Line::If(Condition::Comparison(comparison.clone()))).0
 }
 
 /// Orders, and the temporaries that they use beside those that are in use before.
@@ -36,15 +42,39 @@ impl Count {
 
 /// Counting what translating puts, without putting it.
 impl Compact {
-    pub fn count(&self, line: &Line<Place>) -> Count {
+    pub fn count(&self, line: &Line) -> Count {
         match line {
             Line::Simple(simple) => self.count_simple(simple),
-            // the branch
-            Line::If { left, right, .. } => self.count_binary(*left, *right).and_orders(1),
+            Line::If(condition) => self.count_condition(*condition),
             // the SKIP
             Line::Else => Count::default().and_orders(1),
             Line::Finish => Count::default(),
         }
+    }
+
+    fn count_condition(&self, condition: Pieces) -> Count {
+        match self.pieces(condition) {
+            [Piece::Comparison(only)] => self.count_comparison(only),
+            pieces => self.count_joined(pieces),
+        }
+    }
+
+    /// "A condition of two or more begins with a new order COND." Each comparison starts with no
+    /// temporary in use. Not inlined, so that other lines cost as little as can be.
+    #[inline(never)]
+    fn count_joined(&self, pieces: &[Piece]) -> Count {
+        let mut count = Count::default().and_orders(1);
+        for piece in pieces {
+            if let Piece::Comparison(only) = piece {
+                count = count.and(self.count_comparison(only));
+            }
+        }
+        count
+    }
+
+    /// The comparison and its branch.
+    fn count_comparison(&self, only: &Comparison<Place>) -> Count {
+        self.count_binary(only.left, only.right).and_orders(1)
     }
 
     fn count_simple(&self, simple: &Simple<Place>) -> Count {

@@ -1,11 +1,15 @@
 //! Random sheets, of exactly so many orders.
 
+pub mod conditions;
+
+use crate::condition::Condition;
 use crate::limits::{MOST_LEVELS, MOST_NUMBER, MOST_ORDERS, MOST_TEMPORARIES, MOST_VARIABLES};
 use crate::object::{Order, STOP};
 use crate::random::Random;
 use crate::sheet::{count, Expression, Line, Operator, Relation, Sheet, Sign, Simple};
-use crate::sheet::{OPERATORS, RELATIONS, SIGNS};
+use crate::sheet::{OPERATORS, SIGNS};
 use crate::translate::without_limits;
+use conditions::LEAST;
 
 /// What a random sheet is to be like.
 #[derive(Clone, Copy)]
@@ -17,6 +21,8 @@ pub struct Plan {
     pub levels: usize,
     /// Most of its instructions stand in as many parts as they may.
     pub deep: bool,
+    /// Most of its IFs have many comparisons and few orders in their parts.
+    pub joined: bool,
     /// Few operations of it may fault.
     pub calm: bool,
     /// No GOTO leads back, so that it ends.
@@ -67,6 +73,7 @@ impl Plan {
                 _ => MOST_LEVELS,
             },
             deep: random.once_in(5),
+            joined: random.once_in(5),
             calm: !random.once_in(4),
             forward: random.once_in(2),
             short: false,
@@ -153,6 +160,7 @@ impl Plan {
             let largest = left.min(most);
             let size = match random.below(64) {
                 8.. if self.deep => random.between(largest.div_ceil(2), largest),
+                8..=55 if self.joined => random.between(8, SHORT),
                 0..=7 => 1,
                 8..=55 => random.between(2, 14),
                 56..=62 => random.between(2, 60),
@@ -184,11 +192,9 @@ impl Plan {
             let one = Box::new(Expression::Constant(1));
             let sum = Expression::Binary(Operator::Add, counter(), one);
             lines.push(Line::Simple(Simple::Set(self.variables + 1, sum)));
-            lines.push(Line::If {
-                relation: Relation::Less,
-                left: *counter(),
-                right: Expression::Constant(rounds),
-            });
+            let rounds = Expression::Constant(rounds);
+            let condition = Condition::comparison(Relation::Less, *counter(), rounds);
+            lines.push(Line::If(condition));
             lines.extend([Line::Simple(Simple::Goto(1)), Line::Finish]);
         }
         Sheet {
@@ -212,29 +218,17 @@ impl Maker<'_> {
     /// Puts an instruction of `orders` orders, those of its parts included, in so many IFs.
     fn instruction(&mut self, orders: usize, level: usize) {
         let wants = self.plan.deep && !self.random.once_in(16) || !self.random.once_in(3);
-        if orders < 4 || level >= self.plan.levels || !wants {
+        if orders < LEAST + 1 || level >= self.plan.levels || !wants {
             let simple = self.simple(orders);
             return self.lines.push(Line::Simple(simple));
         }
-        let has_else = orders >= 6 && !self.random.once_in(if self.plan.deep { 4 } else { 2 });
-        // the branch, and with ELSE the SKIP; the comparison has at least two orders
-        let left = orders - 1 - usize::from(has_else);
-        let (first, second) = self.parts(left - 2, has_else);
-        self.choose_nesting();
-        let (left, mut right) = self.operands(left - first - second, self.plan.temporaries);
-        let mut relation = self.random.pick(&RELATIONS).0;
-        // inner parts are done only where all IFs around them lead there
-        let is_plain = left.is_plain() && right.is_plain();
-        if self.plan.deep && is_plain && self.random.once_in(2) {
-            right = left.clone();
-            let holding = [Relation::Equal, Relation::AtMost, Relation::AtLeast];
-            relation = self.random.pick(&holding);
-        }
-        self.lines.push(Line::If {
-            relation,
-            left,
-            right,
-        });
+        let has_else =
+            orders >= LEAST + 3 && !self.random.once_in(if self.plan.deep { 4 } else { 2 });
+        // with ELSE the SKIP
+        let left = orders - usize::from(has_else);
+        let (first, second) = self.parts(left - LEAST, has_else);
+        let condition = self.condition(left - first - second);
+        self.lines.push(Line::If(condition));
         self.part(first, level + 1);
         if has_else {
             self.lines.push(Line::Else);
@@ -252,6 +246,10 @@ impl Maker<'_> {
                 (true, true) => (1, most - 1),
             };
         }
+        let most = match self.plan.joined {
+            true => most.min(4),
+            false => most,
+        };
         let first = self.size(most - usize::from(has_else));
         match has_else {
             true => (first, self.size(most - first)),

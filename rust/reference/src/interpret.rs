@@ -1,8 +1,10 @@
 //! The meaning of a program, laid down on its instructions and the word arithmetic. No order
 //! appears in it: the counts are those of document 01's rules for each form.
 
+mod conditions;
+
 use crate::rests::Rests;
-use crate::sheet::{closings, Expression, Line, Operator, Relation, Sheet, Sign, Simple};
+use crate::sheet::{closings, Expression, Line, Operator, Sheet, Sign, Simple};
 
 /// How a program ends, with document 01's numbers of faults and `skimp_run`'s number of a stop.
 #[derive(Clone, Copy, Debug, PartialEq, Eq)]
@@ -28,9 +30,12 @@ pub struct Meaning<'a> {
     pub next: usize,
     pub variables: Vec<i32>,
     pub sent: Vec<i32>,
-    /// The orders of the path so far, and those before the last instruction.
+    /// The orders of the path so far, and those before the last instruction. Of an IF the latter are
+    /// those before the last comparison that was tried.
     pub count: u64,
     pub begun: u64,
+    /// The number of that comparison in its IF, from 0; of another instruction, 0.
+    pub tried: usize,
     pub ending: Option<Ending>,
     /// How often each operator gave a value.
     pub operations: [usize; 10],
@@ -38,6 +43,9 @@ pub struct Meaning<'a> {
     pub rests: Rests,
     /// How often each relation failed and held.
     pub comparisons: [[usize; 2]; 6],
+    /// How often a condition of two comparisons or more failed and held, with some of them left out
+    /// and with all of them tried.
+    pub joined: [[usize; 2]; 2],
     /// How often the way from one instruction to the next led over one SKIP, two, or more.
     pub skips: [usize; 3],
 }
@@ -57,10 +65,12 @@ impl<'a> Meaning<'a> {
             sent: Vec::new(),
             count: 0,
             begun: 0,
+            tried: 0,
             ending: None,
             operations: [0; 10],
             rests: Rests::default(),
             comparisons: [[0; 2]; 6],
+            joined: [[0; 2]; 2],
             skips: [0; 3],
         }
     }
@@ -70,7 +80,7 @@ impl<'a> Meaning<'a> {
         if self.ending.is_some() {
             return;
         }
-        self.begun = self.count;
+        (self.begun, self.tried) = (self.count, 0);
         let Some(line) = self.sheet.lines.get(self.next) else {
             self.count += 1;
             self.ending = Some(Ending::Stopped);
@@ -92,22 +102,11 @@ impl<'a> Meaning<'a> {
                 self.simple(simple)?;
                 self.go_on(behind);
             }
-            Line::If {
-                relation,
-                left,
-                right,
-            } => {
-                let (left, right) = self.operands(left, right)?;
-                // the comparison and the branch
-                self.count += 2;
-                let holds = holds(*relation, left, right);
-                self.comparisons[*relation as usize][usize::from(holds)] += 1;
-                match holds {
-                    true => self.next = behind,
-                    // a second part begins behind its ELSE, what follows the IF behind its FINISH
-                    false => self.go_on(self.closings[self.next] + 1),
-                }
-            }
+            Line::If(condition) => match self.condition(condition)? {
+                true => self.next = behind,
+                // a second part begins behind its ELSE, what follows the IF behind its FINISH
+                false => self.go_on(self.closings[self.next] + 1),
+            },
             Line::Else | Line::Finish => unreachable!("no instruction"),
         }
         Ok(())
@@ -232,17 +231,5 @@ fn nearest(dividend: i32, divisor: i32) -> i32 {
         outer as i32
     } else {
         inner as i32
-    }
-}
-
-/// "Comparison is signed and never wraps."
-fn holds(relation: Relation, left: i32, right: i32) -> bool {
-    match relation {
-        Relation::Equal => left == right,
-        Relation::Unequal => left != right,
-        Relation::Less => left < right,
-        Relation::AtMost => left <= right,
-        Relation::Greater => left > right,
-        Relation::AtLeast => left >= right,
     }
 }

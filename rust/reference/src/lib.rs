@@ -1,7 +1,7 @@
 //! The rules of document 01 in plain Rust, with the groups of request L1, the rounded division of
-//! request L3 and the limits of request L4. The tests compare the archives with it, and the benchmark
-//! measures the archive's calls against its own, so they are written for speed. It shares no code with
-//! the archives.
+//! request L3, the limits of request L4 and the joined conditions of request L5. The tests compare the
+//! archives with it, and the benchmark measures the archive's calls against its own, so they are
+//! written for speed. It shares no code with the archives.
 //!
 //! Besides the rules there is what the tests of this workspace share: random numbers, sheets and
 //! sources (`random`, `generate`, `writing`), damaged objects (`damage`), what was covered
@@ -12,6 +12,7 @@
 pub mod agree;
 pub mod census;
 mod compact;
+pub mod condition;
 pub mod count;
 pub mod damage;
 pub mod generate;

@@ -13,6 +13,8 @@ pub const MOST_LABELS: usize = 64;
 pub const GREATEST_LABEL: u32 = 9999;
 /// "nested up to 16 deep": how many IFs may stand in each other.
 pub const MOST_LEVELS: usize = 16;
+/// "up to 16 comparisons" in one IF.
+pub const MOST_COMPARISONS: usize = 16;
 /// "A statement may hold 256 cells at any moment, its end mark included."
 pub const MOST_CELLS: usize = 256;
 /// "Source is 0 to 16,384 bytes."

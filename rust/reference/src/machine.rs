@@ -111,7 +111,8 @@ impl State {
             Name::Ble if (acc as i32) <= 0 => next = target,
             Name::Bgt if (acc as i32) > 0 => next = target,
             Name::Bge if (acc as i32) >= 0 => next = target,
-            Name::Be | Name::Bne | Name::Blt | Name::Ble | Name::Bgt | Name::Bge => {}
+            // a branch that is not taken, and COND, which "does nothing"
+            Name::Be | Name::Bne | Name::Blt | Name::Ble | Name::Bgt | Name::Bge | Name::Cond => {}
             Name::Send if self.full(output) => return OUTPUT_FULL,
             Name::Send => self.send(output),
             Name::Stop => return STOPPED,

@@ -28,6 +28,7 @@ const BAD_STOP: u32 = 25;
 #[rustfmt::skip]
 pub enum Name {
     Load, Add, Sub, Mlt, Div, Exp, Shl, Shr, And, Or, Xor, Cmp,
+    Cond,
     Str,
     Jmp, Skip, Be, Bne, Blt, Ble, Bgt, Bge,
     Neg, Not, Send, Stop,
@@ -57,8 +58,9 @@ pub const STOP: Order = Order {
 
 /// The names as records have them, in the order of `Name`.
 #[rustfmt::skip]
-const NAMES: [&str; 25] = [
+const NAMES: [&str; 26] = [
     "LOAD", "ADD", "SUB", "MLT", "DIV", "EXP", "SHL", "SHR", "AND", "OR", "XOR", "CMP",
+    "COND",
     "STR",
     "JMP", "SKIP", "BE", "BNE", "BLT", "BLE", "BGT", "BGE",
     "NEG", "NOT", "SEND", "STOP",
@@ -198,6 +200,7 @@ fn order(record: &[u8]) -> Option<Order> {
     let (name, kind) = match kind {
         b"D" if name == b"STR" => (Name::Str, Kind::Word),
         b"D" => (with_value(name)?, Kind::Word),
+        b"K" if name == b"COND" => (Name::Cond, Kind::Number),
         b"K" => (with_value(name)?, Kind::Number),
         b"A" => (with_address(name)?, Kind::Address),
         b"-" if number == 0 => (with_nothing(name)?, Kind::Nothing),

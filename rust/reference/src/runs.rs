@@ -1,9 +1,9 @@
 //! Runs of a translation, held to the meaning of its sheet.
 
-use crate::count::counts;
+use crate::count::{comparison_orders, counts};
 use crate::interpret::{Ending, Meaning};
 use crate::rests::Rests;
-use crate::sheet::{Sheet, OPERATORS, RELATIONS};
+use crate::sheet::{Line, Sheet, OPERATORS, RELATIONS};
 use crate::translate::Translation;
 
 /// A program that has not ended is left after so many instructions.
@@ -26,6 +26,9 @@ pub struct Runs {
     operations: [usize; 10],
     rests: Rests,
     comparisons: [[usize; 2]; 6],
+    joined: [[usize; 2]; 2],
+    /// Faults in a comparison behind the first of its IF.
+    late_faults: usize,
     skips: [usize; 3],
 }
 
@@ -103,13 +106,20 @@ impl Runs {
             all[0] += some[0];
             all[1] += some[1];
         }
+        let joined = self.joined.as_flattened_mut().iter_mut();
+        for (all, some) in joined.zip(meaning.joined.as_flattened()) {
+            *all += some;
+        }
+        let is_fault = !matches!(meaning.ending, None | Some(Ending::Stopped));
+        self.late_faults += usize::from(is_fault && meaning.tried > 0);
         for (all, some) in self.skips.iter_mut().zip(meaning.skips) {
             *all += some;
         }
     }
 
-    /// Holds every ending, operation and answer of a comparison, all that a division may leave with
-    /// all signs, and one, two and more SKIPs in a row, to having come `least` times.
+    /// Holds every ending, operation and answer of a comparison and of a joined condition, all that a
+    /// division may leave with all signs, and one, two and more SKIPs in a row, to having come `least`
+    /// times; faults behind the first comparison of an IF to a fifth of that.
     pub fn every_way(&self, source: &str, least: usize) {
         for number in [0, 1, 2, 3, 4, 20] {
             let count = self.endings[number];
@@ -126,6 +136,14 @@ impl Runs {
             assert!(failed >= least, "{source}: {sign} failed {failed} times");
             assert!(held >= least, "{source}: {sign} held {held} times");
         }
+        for (tried, [failed, held]) in ["some", "all"].iter().zip(self.joined) {
+            assert!(
+                failed.min(held) >= least,
+                "{source}: with {tried} tried, conditions failed {failed} and held {held} times"
+            );
+        }
+        let late = self.late_faults;
+        assert!(5 * late >= least, "{source}: {late} late faults");
         let skips = self.skips;
         assert!(
             skips.iter().all(|&count| count >= least),
@@ -207,8 +225,20 @@ fn next_order(meaning: &Meaning, firsts: &[u32]) -> u32 {
     let first = firsts[meaning.next];
     match meaning.ending {
         None | Some(Ending::Stopped) => first,
-        Some(_) => first + (meaning.count - meaning.begun) as u32,
+        Some(_) => first + before_tried(meaning) + (meaning.count - meaning.begun) as u32,
     }
+}
+
+/// How many orders of an IF stand before the comparison that was tried last.
+fn before_tried(meaning: &Meaning) -> u32 {
+    let Some(Line::If(condition)) = meaning.sheet.lines.get(meaning.next) else {
+        return 0;
+    };
+    let comparisons = condition.comparisons();
+    let before = comparisons[..meaning.tried].iter();
+    let orders: u32 = before.map(|only| comparison_orders(only)).sum();
+    // COND
+    orders + u32::from(comparisons.len() > 1)
 }
 
 fn bytes(words: &[i32]) -> Vec<u8> {

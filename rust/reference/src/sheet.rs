@@ -1,6 +1,7 @@
 //! Sheets: what they are.
 
 use crate::compact::Compact;
+use crate::condition::Condition;
 
 /// An expression, as levels and brackets part it.
 #[derive(Clone, Debug, PartialEq, Eq)]
@@ -61,16 +62,13 @@ pub enum Simple<E = Expression> {
     Goto(u32),
 }
 
-/// A line of a sheet's text. The line START, which follows each IF, has no case of its own.
+/// A line of a sheet's text. The line START, which follows each IF, has no case of its own. `C` is
+/// what stands for a condition.
 #[derive(Clone, Copy, Debug, PartialEq, Eq)]
-pub enum Line<E = Expression> {
+pub enum Line<E = Expression, C = Condition> {
     Simple(Simple<E>),
     /// Its first part goes on to the line ELSE or FINISH of the same level.
-    If {
-        relation: Relation,
-        left: E,
-        right: E,
-    },
+    If(C),
     Else,
     Finish,
 }
@@ -89,32 +87,21 @@ impl Expression {
     }
 }
 
-impl<E> Line<E> {
+impl<E> Simple<E> {
+    /// The same with another expression.
+    pub fn map<F>(&self, change: impl FnOnce(&E) -> F) -> Simple<F> {
+        match self {
+            Simple::Set(word, value) => Simple::Set(*word, change(value)),
+            Simple::Send(value) => Simple::Send(change(value)),
+            Simple::Goto(instruction) => Simple::Goto(*instruction),
+        }
+    }
+}
+
+impl<E, C> Line<E, C> {
     /// "Sheet numbers count every instruction, nested ones and the IF itself included."
     pub fn is_instruction(&self) -> bool {
-        matches!(self, Line::Simple(_) | Line::If { .. })
-    }
-
-    /// The same with other expressions.
-    pub fn map<F>(&self, mut change: impl FnMut(&E) -> F) -> Line<F> {
-        match self {
-            Line::Simple(Simple::Set(word, value)) => {
-                Line::Simple(Simple::Set(*word, change(value)))
-            }
-            Line::Simple(Simple::Send(value)) => Line::Simple(Simple::Send(change(value))),
-            Line::Simple(Simple::Goto(instruction)) => Line::Simple(Simple::Goto(*instruction)),
-            Line::If {
-                relation,
-                left,
-                right,
-            } => Line::If {
-                relation: *relation,
-                left: change(left),
-                right: change(right),
-            },
-            Line::Else => Line::Else,
-            Line::Finish => Line::Finish,
-        }
+        matches!(self, Line::Simple(_) | Line::If(_))
     }
 
     /// Where it leads, if it is a GOTO.
@@ -127,20 +114,20 @@ impl<E> Line<E> {
 }
 
 /// How many of the lines are instructions.
-pub fn count<E>(lines: &[Line<E>]) -> u32 {
+pub fn count<E, C>(lines: &[Line<E, C>]) -> u32 {
     lines.iter().filter(|line| line.is_instruction()).count() as u32
 }
 
 /// For each IF the place of the line that closes its first part, for each ELSE that of its FINISH,
 /// and 0 for other lines.
-pub fn closings<E>(lines: &[Line<E>]) -> Vec<usize> {
+pub fn closings<E, C>(lines: &[Line<E, C>]) -> Vec<usize> {
     let mut closings = vec![0; lines.len()];
     let mut open = Vec::new();
     for (place, line) in lines.iter().enumerate() {
         if let Line::Else | Line::Finish = line {
             closings[open.pop().expect("an open part")] = place;
         }
-        if let Line::If { .. } | Line::Else = line {
+        if let Line::If(_) | Line::Else = line {
             open.push(place);
         }
     }
@@ -148,17 +135,25 @@ pub fn closings<E>(lines: &[Line<E>]) -> Vec<usize> {
 }
 
 /// How many IFs stand in each other at most.
-pub fn depth<E>(lines: &[Line<E>]) -> usize {
+pub fn depth<E, C>(lines: &[Line<E, C>]) -> usize {
     let (mut most, mut open) = (0, 0);
     for line in lines {
         match line {
-            Line::If { .. } => open += 1,
+            Line::If(_) => open += 1,
             Line::Finish => open -= 1,
             _ => {}
         }
         most = most.max(open);
     }
     most
+}
+
+/// The conditions of the IFs.
+pub fn conditions<E, C>(lines: &[Line<E, C>]) -> impl Iterator<Item = &C> {
+    lines.iter().filter_map(|line| match line {
+        Line::If(condition) => Some(condition),
+        _ => None,
+    })
 }
 
 impl Sheet {

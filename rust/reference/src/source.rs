@@ -15,6 +15,7 @@ use crate::limits::{MOST_CELLS, MOST_SOURCE};
 use crate::sheet::Sheet;
 use crate::Refusal;
 use cells::Statements;
+use grammar::Lists;
 use program::{Parts, Program};
 use tokens::Token;
 
@@ -57,7 +58,7 @@ pub fn read_compact(source: &[u8]) -> Result<Compact, Refusal> {
     let mut reader = Reader {
         program: Program::new(),
         tokens: Vec::with_capacity(MOST_CELLS),
-        nodes: Vec::with_capacity(MOST_CELLS),
+        lists: Lists::default(),
     };
     let mut statements = Statements::new(source);
     let mut number = 0;
@@ -75,11 +76,11 @@ pub fn read_compact(source: &[u8]) -> Result<Compact, Refusal> {
     refuse(NO_END, number)
 }
 
-/// A program that is being read, and the tokens and nodes of one statement after the other.
+/// A program that is being read, and the tokens and lists of one statement after the other.
 struct Reader {
     program: Program,
     tokens: Vec<Token>,
-    nodes: Vec<grammar::Node>,
+    lists: Lists,
 }
 
 impl Reader {
@@ -87,10 +88,10 @@ impl Reader {
     /// its refusal: "the first of 5 and 6 from the left; then 7, 8, 9, 11", and 13 after 7.
     fn take(&mut self, cells: &[u8], number: u32) -> Result<bool, u32> {
         tokens::cut(cells, &mut self.tokens)?;
-        let statement = grammar::parse(&self.tokens, cells, &mut self.nodes);
+        let statement = grammar::parse(&self.tokens, cells, &mut self.lists);
         let statement = statement.ok_or(NO_SUCH_FORM)?;
-        let nodes = &self.nodes;
+        let lists = &self.lists;
         self.program
-            .take(&statement, Parts { cells, nodes }, number)
+            .take(&statement, Parts { cells, lists }, number)
     }
 }

@@ -1,9 +1,12 @@
 //! The translation of a sheet.
 
-use crate::compact::{Compact, Node, Place};
-use crate::limits::{MOST_LEVELS, MOST_ORDERS, MOST_TEMPORARIES, MOST_VARIABLES};
+mod conditions;
+
+use crate::compact::{Compact, Line, Node, Place};
+use crate::limits::{MOST_COMPARISONS, MOST_LEVELS};
+use crate::limits::{MOST_ORDERS, MOST_TEMPORARIES, MOST_VARIABLES};
 use crate::object::{self, Kind, Name, Order, LINK_WORDS, STOP};
-use crate::sheet::{depth, Line, Operator, Relation, Sheet, Sign, Simple};
+use crate::sheet::{conditions, depth, Operator, Sheet, Sign, Simple};
 
 /// What a sheet translates to, or orders that may be such.
 #[derive(Clone, Debug, PartialEq, Eq)]
@@ -22,11 +25,14 @@ impl Translation {
     }
 }
 
-/// The translation, if V, T, N and the levels are within their limits.
+/// The translation, if its runs are merged and V, T, N, the levels and the comparisons of each IF are
+/// within their limits.
 pub fn translate(sheet: &Sheet) -> Option<Translation> {
+    let mut asked = conditions(&sheet.lines);
+    let is_good = asked.all(|asked| asked.is_merged() && asked.count() <= MOST_COMPARISONS);
     let translation = without_limits(sheet);
-    let is_sheet = within_limits(&translation) && depth(&sheet.lines) <= MOST_LEVELS;
-    is_sheet.then_some(translation)
+    let is_within = within_limits(&translation) && depth(&sheet.lines) <= MOST_LEVELS;
+    (is_good && is_within).then_some(translation)
 }
 
 pub fn within_limits(translation: &Translation) -> bool {
@@ -47,7 +53,9 @@ pub fn translate_compact(sheet: &Compact) -> Translation {
         first_temporary: LINK_WORDS + sheet.variables,
         temporaries: 0,
         orders: Vec::with_capacity(MOST_ORDERS),
-        open: Vec::new(),
+        firsts: Vec::with_capacity(MOST_COMPARISONS + 1),
+        over: Vec::new(),
+        open: Vec::with_capacity(MOST_LEVELS),
         gotos: Vec::new(),
     };
     let mut first_orders = Vec::with_capacity(sheet.lines.len() + 1);
@@ -73,7 +81,11 @@ struct Writer<'s> {
     /// The most that were used so far.
     temporaries: u32,
     orders: Vec<Order>,
-    /// The branches and SKIPs over the parts that are open, the innermost last.
+    /// The first order of each comparison of the condition that is being put, then that of the part.
+    firsts: Vec<u32>,
+    /// The branches and SKIPs over the parts that are open, those of the innermost last.
+    over: Vec<usize>,
+    /// How many of them there were when each of the parts was opened.
     open: Vec<usize>,
     /// The places of orders whose address is still an instruction's number.
     gotos: Vec<usize>,
@@ -123,11 +135,14 @@ impl Writer<'_> {
         self.orders.len() - 1
     }
 
-    /// "Branches and SKIPs lead to the order right after their part." Lets that of the innermost open
-    /// part lead to the next order.
+    /// "Branches and SKIPs lead to the order right after their part." Lets those of the innermost
+    /// open part lead to the next order.
     fn close(&mut self) {
-        let place = self.open.pop().expect("an open part");
-        self.orders[place].number = self.place();
+        let first = self.open.pop().expect("an open part");
+        let next = self.place();
+        for place in self.over.drain(first..) {
+            self.orders[place].number = next;
+        }
     }
 
     /// "GOTO s leads to the first order of s, or to the order after the last instruction."
@@ -197,24 +212,19 @@ impl Writer<'_> {
         }
     }
 
-    /// "A comparison is the same with CMP, then the branch of the opposite relation past u." "The jump
-    /// over an ELSE becomes a new order SKIP."
-    fn line(&mut self, line: &Line<Place>) {
+    /// "The jump over an ELSE becomes a new order SKIP."
+    fn line(&mut self, line: &Line) {
         match line {
             Line::Simple(simple) => self.simple(simple),
-            Line::If {
-                relation,
-                left,
-                right,
-            } => {
-                self.binary(Name::Cmp, *left, *right, 0);
-                let branch = self.put_jump(opposite(*relation), 0);
-                self.open.push(branch);
+            Line::If(condition) => {
+                self.open.push(self.over.len());
+                self.condition(*condition);
             }
             Line::Else => {
                 let skip = self.put_jump(Name::Skip, 0);
                 self.close();
-                self.open.push(skip);
+                self.open.push(self.over.len());
+                self.over.push(skip);
             }
             Line::Finish => self.close(),
         }
@@ -233,17 +243,5 @@ fn name_of(operator: Operator) -> Name {
         Operator::And => Name::And,
         Operator::Or => Name::Or,
         Operator::Xor => Name::Xor,
-    }
-}
-
-/// The branch that is taken where the relation does not hold.
-fn opposite(relation: Relation) -> Name {
-    match relation {
-        Relation::Equal => Name::Bne,
-        Relation::Unequal => Name::Be,
-        Relation::Less => Name::Bge,
-        Relation::AtMost => Name::Bgt,
-        Relation::Greater => Name::Ble,
-        Relation::AtLeast => Name::Blt,
     }
 }

@@ -2,15 +2,18 @@
 //!
 //! The orders are carried out in place of values on expressions: the accumulator and the
 //! temporaries hold what the value was worked out from. An order that ends a simple instruction or
-//! a comparison gives it away. A branch tells where its part ends, and a SKIP before that place that
-//! there is a second. Orders that no sheet translates to may get through this, so the sheet that
-//! comes out is translated again and must give the same.
+//! a comparison gives it away. The branch of the last comparison tells where the part ends, and a
+//! SKIP before that place that there is a second. Orders that no sheet translates to may get through
+//! this, so the sheet that comes out is translated again and must give the same.
 
-use crate::compact::{Compact, Node, Place};
+mod conditions;
+
+use crate::compact::{Compact, Line, Node, Place};
 use crate::limits::{MOST_LEVELS, MOST_NUMBER, MOST_TEMPORARIES};
 use crate::object::{Kind, Name, Order, LINK_WORDS};
-use crate::sheet::{Line, Operator, Relation, Sheet, Sign, Simple};
+use crate::sheet::{Operator, Sheet, Sign, Simple};
 use crate::translate::{translate_compact, within_limits, Translation};
+use conditions::relation_of;
 
 /// The one sheet whose translation this is, if there is one.
 pub fn untranslate(translation: &Translation) -> Option<Sheet> {
@@ -73,13 +76,17 @@ fn lead(sheet: &mut Compact, numbers: &[u32]) -> Option<()> {
 enum Part {
     /// A GOTO has an order's place for now.
     Simple(Simple<Place>),
-    Comparison {
-        relation: Relation,
-        left: Place,
-        right: Place,
-        /// Where the branch leads.
-        past: usize,
-    },
+    Comparison(Read),
+}
+
+/// A comparison with its branch.
+#[derive(Clone, Copy)]
+struct Read {
+    branch: Name,
+    left: Place,
+    right: Place,
+    /// Where the branch leads.
+    target: usize,
 }
 
 /// A part of an IF that is being read.
@@ -128,32 +135,30 @@ impl Reader<'_> {
         Some(())
     }
 
-    /// Reads a simple instruction, or the comparison and the branch of an IF.
+    /// Reads a simple instruction, or what an IF asks.
     fn instruction(&mut self) -> Option<()> {
-        let (relation, left, right, past) = match self.part()? {
-            Part::Simple(simple) => {
-                self.sheet.lines.push(Line::Simple(simple));
-                return Some(());
-            }
-            Part::Comparison {
-                relation,
-                left,
-                right,
-                past,
-            } => (relation, left, right, past),
+        let first = self.sheet.pieces.len();
+        let past = match self.orders.get(self.place)? {
+            order if order.name == Name::Cond => self.joined(order.number as usize)?,
+            _ => match self.part()? {
+                Part::Simple(simple) => {
+                    self.sheet.lines.push(Line::Simple(simple));
+                    return Some(());
+                }
+                Part::Comparison(only) => self.alone(only)?,
+            },
         };
-        self.sheet.lines.push(Line::If {
-            relation,
-            left,
-            right,
-        });
+        let condition = self.sheet.pieces_from(first);
+        self.sheet.lines.push(Line::If(condition));
         // a second part is never empty, so a SKIP before the branch's target is that of this IF
         let before = self.orders.get(past.checked_sub(1)?)?;
         let has_else = before.name == Name::Skip;
         self.open(past - usize::from(has_else), has_else)
     }
 
-    /// Carries out orders up to the one that ends a simple instruction or a comparison.
+    /// Carries out orders up to the one that ends a simple instruction or a comparison. It is inlined at
+    /// both of its callers, since most of the time of reading back goes here.
+    #[inline(always)]
     fn part(&mut self) -> Option<Part> {
         let mut held = Held::default();
         loop {
@@ -176,16 +181,16 @@ impl Reader<'_> {
                     let right = self.operand(order, &mut held)?;
                     held.compared = Some((held.accumulator.take()?, right));
                 }
-                Name::Skip | Name::Stop => return None,
+                Name::Skip | Name::Stop | Name::Cond => return None,
                 name => {
-                    if let Some(relation) = relation_of(name) {
+                    if relation_of(name).is_some() {
                         let (left, right) = held.compared?;
-                        return Some(Part::Comparison {
-                            relation,
+                        return Some(Part::Comparison(Read {
+                            branch: name,
                             left,
                             right,
-                            past: order.number as usize,
-                        });
+                            target: order.number as usize,
+                        }));
                     }
                     let right = self.operand(order, &mut held)?;
                     self.binary(operator_of(name)?, right, &mut held)?;
@@ -252,19 +257,6 @@ fn operator_of(name: Name) -> Option<Operator> {
         Name::And => Operator::And,
         Name::Or => Operator::Or,
         Name::Xor => Operator::Xor,
-        _ => return None,
-    })
-}
-
-/// The relation at which a branch is not taken.
-fn relation_of(name: Name) -> Option<Relation> {
-    Some(match name {
-        Name::Be => Relation::Unequal,
-        Name::Bne => Relation::Equal,
-        Name::Blt => Relation::AtLeast,
-        Name::Ble => Relation::Greater,
-        Name::Bgt => Relation::AtMost,
-        Name::Bge => Relation::Less,
         _ => return None,
     })
 }

@@ -4,6 +4,7 @@
 mod characters;
 pub mod damage;
 pub mod exhaustive;
+pub mod joined;
 pub mod limits;
 pub mod program;
 pub mod soup;

@@ -51,6 +51,8 @@ pub const MOST_LABELS: usize = 64;
 pub const GREATEST_LABEL: usize = 9999;
 /// IFs in each other, of a sheet too.
 pub const MOST_LEVELS: usize = 16;
+/// Comparisons of one IF, of a sheet too.
+pub const MOST_COMPARISONS: usize = 16;
 /// Cells of a statement, its end mark included.
 pub const MOST_CELLS: usize = 256;
 /// Bytes of a source.
@@ -73,8 +75,8 @@ pub const fn state_bytes(variables: usize, temporaries: usize) -> usize {
 }
 
 /// A stack of so many bytes is enough for a call, as measured on its worst inputs, with a twentieth more at least.
-pub const COMPILE_STACK_BYTES: usize = 80 * 1024;
-pub const READ_BACK_STACK_BYTES: usize = 90 * 1024;
+pub const COMPILE_STACK_BYTES: usize = 85 * 1024;
+pub const READ_BACK_STACK_BYTES: usize = 95 * 1024;
 pub const RUN_STACK_BYTES: usize = 19 * 1024;
 /// A stack of so many bytes is enough for every call.
 pub const STACK_BYTES: usize = READ_BACK_STACK_BYTES;

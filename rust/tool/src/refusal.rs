@@ -43,10 +43,12 @@ fn without_limits(number: u32) -> &'static str {
 
 fn over_limit() -> String {
     format!(
-        "over {} variables, {} set labels, {} levels, {} temporaries, or {} orders with STOP",
+        "over {} variables, {} set labels, {} levels, {} comparisons, {} temporaries, or {} orders \
+         with STOP",
         skimp::MOST_VARIABLES,
         skimp::MOST_LABELS,
         skimp::MOST_LEVELS,
+        skimp::MOST_COMPARISONS,
         skimp::MOST_TEMPORARIES,
         thousands(skimp::MOST_ORDERS)
     )

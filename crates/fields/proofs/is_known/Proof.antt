@@ -35,7 +35,9 @@ is-known-spec =
     (λ c. search needs)
     (λ c. search needs)
     (λ c. search needs)
+    (λ c. search needs)
     returns-10
     (λ c. search needs)
     returns-12
+    (λ c. search needs)
     (λ c. search needs))

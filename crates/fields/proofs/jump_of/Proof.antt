@@ -35,4 +35,6 @@ jump-of-spec =
     (λ c. search needs)
     (λ c. search needs)
     (λ c. search needs)
-    returns-13)
+    (λ c. search needs)
+    returns-13
+    (λ c. search needs))

@@ -36,6 +36,7 @@ trouble-of-spec =
     (λ c. search needs)
     (λ c. search needs)
     (λ c. search needs)
+    (λ c. search needs)
     returns
     (λ c. search needs)
     returns-3
@@ -44,5 +45,6 @@ trouble-of-spec =
     returns-6
     returns-7
     returns-8
+    (λ c. search needs)
     (λ c. search needs)
     (λ c. search needs))

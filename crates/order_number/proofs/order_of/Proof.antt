@@ -1,5 +1,5 @@
 use mathlib.Core.Path.{_∙_}
-use Rattle.order_number.proofs.Numbering.{order-plain, word-again, number-again, skip-again, past-skip}
+use Rattle.order_number.proofs.Numbering.{order-plain, word-again, number-again, skip-again, cond-again, past-cond}
 use borrow.Author.Needs.{needs}
 use Rattle.order_number.proofs.order_of.Statement.{statement}
 use Rattle.order_number.proofs.order_of.Tie as tie
@@ -17,7 +17,10 @@ returns-4 : tie.Need-returns-4
 returns-4 c = skip-again _ _ (c .if4 .taken)
 
 returns-5 : tie.Need-returns-5
-returns-5 c = past-skip _ _ (c .before .if3 .left) (c .if4 .left)
+returns-5 c = cond-again _ _ (c .if5 .taken)
+
+returns-6 : tie.Need-returns-6
+returns-6 c = past-cond _ _ (c .before .before .if3 .left) (c .before .if4 .left) (c .if5 .left)
 
 pub order-of-spec : {M : Type 1} → statement M
 order-of-spec =
@@ -30,4 +33,5 @@ order-of-spec =
     (λ c. search needs)
     returns-3
     returns-4
-    returns-5)
+    returns-5
+    returns-6)

@@ -13,7 +13,7 @@ returns c =
 
 returns-2 : tie.Need-returns-2
 unfolding pick
-returns-2 c = rw (le-ltb _ 37 (c .if1 .left)) refl
+returns-2 c = rw (le-ltb _ 38 (c .if1 .left)) refl
 
 pub heading-at-spec : {M : Type 1} → statement M
 heading-at-spec =

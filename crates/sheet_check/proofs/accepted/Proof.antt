@@ -20,10 +20,20 @@ abbrev μ-loop : tie.MeasureT-loop
 μ-loop fields v n s₀ i₀ s i = length fields - i
 
 loop-holds : tie.Need-loop-holds Inv-loop μ-loop
-loop-holds c = pass-none _ _ _
+loop-holds c = rw (c .among .ensures) (pass-none _ _ _)
 
 one-step-requires : tie.Need-one-step-requires Inv-loop μ-loop
-one-step-requires c κs = let p = c .before .before .before .loop .inv .small in let q = c .before .before .before .before .before .pre .0 in let t = c .before .before .loop-test .taken in let few = seconds-few _ _ p in (omega (arith, p .values, q, t), omega (arith, few), c .before .before .before .before .before .pre .1, c .before .before .before .before .before .pre .2)
+one-step-requires c κs =
+    let p = c .before .before .before .loop .inv .small in
+    let pre = c .before .before .before .before .before .before .pre in
+    let t = c .before .before .loop-test .taken in
+    let few = seconds-few _ _ p in (
+      omega (arith, p .values, pre .0, t),
+      omega (arith, few),
+      omega (arith, p .conditions, pre .0, t),
+      pre .1,
+      pre .2,
+    )
 
 returns : tie.Need-returns Inv-loop μ-loop
 returns c = pass-stops _ _ _ _ _ (c .before .before .before .before .before .before .loop .inv) (c .before .before .before .before .before .loop-test .taken) _ (rw (← c .before .before .before .field-in .ensures) (c .before .before .one-step .ensures)) (c .enum-told .given .1)
@@ -40,6 +50,7 @@ accepted-spec =
     (tie.spec
     Inv-loop
     μ-loop
+    (λ c κs. search needs)
     loop-holds
     (λ c. search needs)
     (λ c. search needs)

@@ -17,11 +17,11 @@ returns-2 c = search cases depth 16
 
 returns-3 : tie.Need-returns-3
 unfolding elseStep
-returns-3 c = search cases depth 16
+returns-3 c = rw (c .among .ensures) (search cases depth 16)
 
 returns-4 : tie.Need-returns-4
 unfolding elseStep
 returns-4 c = search cases depth 16
 
 pub else-step-spec : {M : Type 1} → statement M
-else-step-spec = tie.close (tie.spec returns returns-2 (λ c. search needs) returns-3 returns-4)
+else-step-spec = tie.close (tie.spec returns returns-2 (λ c. search needs) (λ c κs. search needs) returns-3 returns-4)

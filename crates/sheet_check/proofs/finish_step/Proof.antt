@@ -13,11 +13,11 @@ returns c = search cases depth 16
 
 returns-2 : tie.Need-returns-2
 unfolding finishStep
-returns-2 c = search cases depth 16
+returns-2 c = rw (c .among .ensures) (search cases depth 16)
 
 returns-3 : tie.Need-returns-3
 unfolding finishStep
 returns-3 c = search cases depth 16
 
 pub finish-step-spec : {M : Type 1} → statement M
-finish-step-spec = tie.close (tie.spec returns (λ c. search needs) returns-2 returns-3)
+finish-step-spec = tie.close (tie.spec returns (λ c. search needs) (λ c κs. search needs) returns-2 returns-3)

@@ -9,11 +9,11 @@ use borrow.Author.Needs.{needs}
 
 returns : tie.Need-returns
 unfolding opened
-returns c = search cases depth 16
+returns c = rw (c .among .ensures) (search cases depth 16)
 
 returns-2 : tie.Need-returns-2
 unfolding opened
 returns-2 c = search cases depth 16
 
 pub opened-spec : {M : Type 1} → statement M
-opened-spec = tie.close (tie.spec (λ c. search needs) (λ c. search needs) returns returns-2)
+opened-spec = tie.close (tie.spec (λ c. search needs) (λ c. search needs) (λ c κs. search needs) returns returns-2)

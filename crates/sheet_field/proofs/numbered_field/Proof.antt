@@ -14,7 +14,13 @@ returns-3 : tie.Need-returns-3
 returns-3 c = rw (c .match .keys3) refl
 
 returns-4 : tie.Need-returns-4
-returns-4 c = last-numbered _ _ (none-of 3 _ (c .match .rest))
+returns-4 c = rw (c .match .keys4) refl
+
+returns-5 : tie.Need-returns-5
+returns-5 c = rw (c .match .keys5) refl
+
+returns-6 : tie.Need-returns-6
+returns-6 c = last-numbered _ _ (none-of 5 _ (c .match .rest))
 
 pub numbered-field-spec : {M : Type 1} → statement M
-numbered-field-spec = tie.close (tie.spec returns returns-2 returns-3 returns-4)
+numbered-field-spec = tie.close (tie.spec returns returns-2 returns-3 returns-4 returns-5 returns-6)

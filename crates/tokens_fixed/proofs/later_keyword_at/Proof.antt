@@ -2,7 +2,7 @@ use borrow.Author.Needs.{needs}
 use native.Mathlib.Omega.{arith}
 use Rattle.base.specs.Text.{bytes}
 use Rattle.source.specs.declared.Token.the-variants.{Mark}
-use Rattle.tokens_fixed.proofs.Keywords.{by-hit, by-miss, by-none}
+use Rattle.tokens_fixed.proofs.Keywords.{by-hit, by-miss}
 use Rattle.tokens_fixed.proofs.later_keyword_at.Statement.{statement}
 use Rattle.tokens_fixed.proofs.later_keyword_at.Tie as tie
 
@@ -36,8 +36,7 @@ returns-3 c =
 returns-4 : tie.Need-returns-4
 unfolding bytes
 returns-4 c =
-    let at-fixed-at4 = c .before .before .before in
-    let at-enum-told3 = at-fixed-at4 .before .before in
+    let at-enum-told3 = c .before in
     let at-fixed-at3 = at-enum-told3 .before .before in
     let at-enum-told2 = at-fixed-at3 .before .before in
     let at-fixed-at2 = at-enum-told2 .before .before in
@@ -46,24 +45,7 @@ returns-4 c =
     by-miss _ _ "start" (Mark 135) _ _ (rw (at-enum-told .enum-told .given .1) at (at-fixed-at .fixed-at .ensures .0))
     (by-miss _ _ "then" (Mark 132) _ _ (rw (at-enum-told2 .enum-told2 .given .1) at (at-fixed-at2 .fixed-at2 .ensures .0))
     (by-miss _ _ "else" (Mark 133) _ _ (rw (at-enum-told3 .enum-told3 .given .1) at (at-fixed-at3 .fixed-at3 .ensures .0))
-    (by-hit _ _ "if" (Mark 131) _ _ (omega arith) (omega arith) (rw (c .before .q4 .given .1) at (at-fixed-at4 .fixed-at4 .ensures .0)))))
-
-returns-5 : tie.Need-returns-5
-unfolding bytes
-returns-5 c =
-    let at-enum-told4 = c in
-    let at-fixed-at4 = at-enum-told4 .before .before in
-    let at-enum-told3 = at-fixed-at4 .before .before in
-    let at-fixed-at3 = at-enum-told3 .before .before in
-    let at-enum-told2 = at-fixed-at3 .before .before in
-    let at-fixed-at2 = at-enum-told2 .before .before in
-    let at-enum-told = at-fixed-at2 .before .before in
-    let at-fixed-at = at-enum-told .before .before in
-    by-miss _ _ "start" (Mark 135) _ _ (rw (at-enum-told .enum-told .given .1) at (at-fixed-at .fixed-at .ensures .0))
-    (by-miss _ _ "then" (Mark 132) _ _ (rw (at-enum-told2 .enum-told2 .given .1) at (at-fixed-at2 .fixed-at2 .ensures .0))
-    (by-miss _ _ "else" (Mark 133) _ _ (rw (at-enum-told3 .enum-told3 .given .1) at (at-fixed-at3 .fixed-at3 .ensures .0))
-    (by-miss _ _ "if" (Mark 131) _ _ (rw (at-enum-told4 .enum-told4 .given .1) at (at-fixed-at4 .fixed-at4 .ensures .0))
-    (by-none _ _))))
+    (c .last-keyword-at .ensures)))
 
 pub later-keyword-at-spec : {M : Type 1} → statement M
 later-keyword-at-spec =
@@ -84,9 +66,5 @@ later-keyword-at-spec =
     (λ c. search needs)
     returns-3
     (λ c. search needs)
-    (λ c. search needs)
     (λ c κs. search needs)
-    (λ c. search needs)
-    returns-4
-    (λ c. search needs)
-    returns-5)
+    returns-4)

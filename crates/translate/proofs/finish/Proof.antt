@@ -4,11 +4,6 @@ use Rattle.translate.proofs.Translating.{finishes}
 use borrow.Author.Needs.{needs}
 use Rattle.translate.proofs.finish.Statement.{statement}
 use Rattle.translate.proofs.finish.Tie as tie
-use Rattle.translate.proofs.finish.Reads as reads
-use Rattle.translate.proofs.finish.Lts as lts
-use Rattle.translate.proofs.largest.Reads as largest-reads
-use Rattle.translate.proofs.lead_all.Reads as lead-all-reads
-use Rattle.translate.proofs.note_firsts.Reads as note-firsts-reads
 use borrow.Author.Needs.{needs}
 
 returns : tie.Need-returns

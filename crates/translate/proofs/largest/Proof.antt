@@ -1,16 +1,12 @@
 use Prim.Native.Nat.{_-_, _≤_, max}
-use mathlib.Core.Path.{_≡_, refl, sym, ap, _∙_}
+use mathlib.Core.Path.{_≡_, sym, _∙_}
 use native.Mathlib.Omega.{arith}
 use lib.ListN.{length, drop}
 use Rattle.order.specs.Memory.{ordersIn}
-use Rattle.sheet.specs.Temporaries.{storedTo, largestStored}
+use Rattle.sheet.specs.Temporaries.{largestStored}
 use Rattle.translate.proofs.Tables.{largest-more, largest-ends}
 use Rattle.translate.proofs.largest.Statement.{statement}
 use Rattle.translate.proofs.largest.Tie as tie
-use Rattle.translate.proofs.largest.Reads as reads
-use Rattle.translate.proofs.largest.Lts as lts
-use Rattle.base.proofs.larger.Reads as larger-reads
-use Rattle.translate.proofs.stored_to.Reads as stored-to-reads
 use borrow.Author.Needs.{needs}
 
 abbrev Inv-loop : tie.InvT-loop

@@ -4,11 +4,6 @@ use Rattle.translate.proofs.Tables.{lead-jump, lead-other}
 use borrow.Author.Needs.{needs}
 use Rattle.translate.proofs.lead.Statement.{statement}
 use Rattle.translate.proofs.lead.Tie as tie
-use Rattle.translate.proofs.lead.Reads as reads
-use Rattle.translate.proofs.lead.Lts as lts
-use Rattle.order_number.proofs.order_word.Reads as order-word-reads
-use Rattle.translate.proofs.first_of.Reads as first-of-reads
-use Rattle.translate.proofs.target_of.Reads as target-of-reads
 use borrow.Author.Needs.{needs}
 
 returns : tie.Need-returns

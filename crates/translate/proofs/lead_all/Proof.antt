@@ -5,9 +5,6 @@ use Rattle.translate.specs.Internal.{ledWord}
 use Rattle.translate.proofs.Tables.{Leading, lead-none, lead-more, lead-ends}
 use Rattle.translate.proofs.lead_all.Statement.{statement}
 use Rattle.translate.proofs.lead_all.Tie as tie
-use Rattle.translate.proofs.lead_all.Reads as reads
-use Rattle.translate.proofs.lead_all.Lts as lts
-use Rattle.translate.proofs.lead.Reads as lead-reads
 use borrow.Author.Needs.{needs}
 
 abbrev Inv-loop : tie.InvT-loop

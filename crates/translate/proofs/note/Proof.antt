@@ -3,10 +3,6 @@ use Rattle.translate.proofs.Tables.{note-first, note-other, note-none}
 use borrow.Author.Needs.{needs}
 use Rattle.translate.proofs.note.Statement.{statement}
 use Rattle.translate.proofs.note.Tie as tie
-use Rattle.translate.proofs.note.Reads as reads
-use Rattle.translate.proofs.note.Lts as lts
-use Rattle.base.proofs.put_word.Reads as put-word-reads
-use Rattle.translate.proofs.of_instruction.Reads as of-instruction-reads
 use borrow.Author.Needs.{needs}
 
 returns : tie.Need-returns

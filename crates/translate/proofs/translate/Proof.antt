@@ -1,15 +1,9 @@
-use mathlib.Core.Path.{refl, sym, ap, _∙_}
-use native.Mathlib.Omega.{arith}
+use mathlib.Core.Path.{sym}
 use lib.Seq.{length-take-le}
 use Rattle.translate.proofs.Translating.{over-room, whole-put, no-variables, no-array, front-some, front-few}
 use borrow.Author.Needs.{needs}
 use Rattle.translate.proofs.translate.Statement.{statement}
 use Rattle.translate.proofs.translate.Tie as tie
-use Rattle.translate.proofs.translate.Reads as reads
-use Rattle.translate.proofs.translate.Lts as lts
-use Rattle.order_number.proofs.put_order.Reads as put-order-reads
-use Rattle.translate.proofs.finish.Reads as finish-reads
-use Rattle.translate_part.proofs.put_part.Reads as put-part-reads
 use borrow.Author.Needs.{needs}
 
 returns : tie.Need-returns

@@ -41,11 +41,13 @@ node-of-spec =
     (λ c. search needs)
     (λ c. search needs)
     (λ c. search needs)
+    (λ c. search needs)
     returns-6
     returns-7
     returns-8
     (λ c. search needs)
     returns-10
     returns-11
+    (λ c. search needs)
     (λ c. search needs)
     (λ c. search needs))

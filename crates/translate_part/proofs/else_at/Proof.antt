@@ -2,14 +2,10 @@ use mathlib.Core.Path.{ap, sym, _∙_}
 use Rattle.sheet_field.specs.Memory.{kind}
 use lib.Dec.{eqb}
 use Rattle.translate_part.specs.Internal.{isElse}
-use Rattle.translate_part.proofs.Looking.{fields-inside, fields-outside}
+use Rattle.translate_condition.proofs.Looking.{fields-inside, fields-outside}
 use borrow.Author.Needs.{needs}
 use Rattle.translate_part.proofs.else_at.Statement.{statement}
 use Rattle.translate_part.proofs.else_at.Tie as tie
-use Rattle.translate_part.proofs.else_at.Reads as reads
-use Rattle.translate_part.proofs.else_at.Lts as lts
-use Rattle.sheet_field.proofs.field_at.Reads as field-at-reads
-use Rattle.sheet_field.proofs.kind_of.Reads as kind-of-reads
 use borrow.Author.Needs.{needs}
 
 returns : tie.Need-returns

@@ -1,13 +1,10 @@
 use mathlib.Core.Path.{ap, sym, _∙_}
 use Rattle.translate_part.specs.Internal.{openingOf, firstOpening}
-use Rattle.translate_part.proofs.Looking.{fields-inside, fields-outside, opening-inside}
+use Rattle.translate_condition.proofs.Looking.{fields-inside, fields-outside}
+use Rattle.translate_part.proofs.Looking.{opening-inside}
 use borrow.Author.Needs.{needs}
 use Rattle.translate_part.proofs.opening_at.Statement.{statement}
 use Rattle.translate_part.proofs.opening_at.Tie as tie
-use Rattle.translate_part.proofs.opening_at.Reads as reads
-use Rattle.translate_part.proofs.opening_at.Lts as lts
-use Rattle.sheet_field.proofs.field_at.Reads as field-at-reads
-use Rattle.translate_part.proofs.opening_of.Reads as opening-of-reads
 use borrow.Author.Needs.{needs}
 
 returns : tie.Need-returns

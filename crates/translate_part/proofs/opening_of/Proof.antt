@@ -2,8 +2,6 @@ use mathlib.Core.Path.{refl}
 use borrow.Author.Needs.{needs}
 use Rattle.translate_part.proofs.opening_of.Statement.{statement}
 use Rattle.translate_part.proofs.opening_of.Tie as tie
-use Rattle.translate_part.proofs.opening_of.Reads as reads
-use Rattle.translate_part.proofs.opening_of.Lts as lts
 use borrow.Author.Needs.{needs}
 
 returns-5 : tie.Need-returns-5
@@ -36,6 +34,7 @@ opening-of-spec =
     (λ c. search needs)
     (λ c. search needs)
     (λ c. search needs)
+    (λ c. search needs)
     returns-5
     (λ c. search needs)
     (λ c. search needs)
@@ -44,4 +43,5 @@ opening-of-spec =
     (λ c. search needs)
     (λ c. search needs)
     returns-12
-    returns-13)
+    returns-13
+    (λ c. search needs))

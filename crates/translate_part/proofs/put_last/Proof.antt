@@ -2,10 +2,6 @@ use Rattle.translate_part.proofs.Parts.{ending-put}
 use borrow.Author.Needs.{needs}
 use Rattle.translate_part.proofs.put_last.Statement.{statement}
 use Rattle.translate_part.proofs.put_last.Tie as tie
-use Rattle.translate_part.proofs.put_last.Reads as reads
-use Rattle.translate_part.proofs.put_last.Lts as lts
-use Rattle.translate_expression.proofs.put_expression.Reads as put-expression-reads
-use Rattle.translate_expression.proofs.put_order.Reads as put-order-reads
 use borrow.Author.Needs.{needs}
 
 returns : tie.Need-returns

@@ -45,6 +45,9 @@ returns-11 c = rw (← c .before .before .order-at .ensures, c .enum-told6 .give
 returns-12 : tie.Need-returns-12
 returns-12 c = rw (← c .before .before .order-at .ensures, c .enum-told7 .given .1) refl
 
+returns-13 : tie.Need-returns-13
+returns-13 c = rw (← c .before .before .order-at .ensures, c .enum-told8 .given .1) refl
+
 pub link-at-spec : {M : Type 1} → statement M
 link-at-spec =
     tie.close
@@ -67,6 +70,7 @@ link-at-spec =
     (λ c. search needs)
     (λ c. search needs)
     (λ c. search needs)
+    (λ c. search needs)
     returns-3
     returns-4
     returns-5
@@ -76,4 +80,5 @@ link-at-spec =
     returns-9
     returns-10
     returns-11
-    returns-12)
+    returns-12
+    returns-13)

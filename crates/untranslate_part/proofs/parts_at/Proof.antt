@@ -2,7 +2,6 @@ use Rattle.base.proofs.Cases.{cases}
 use borrow.Author.Needs.{needs}
 use Rattle.untranslate_part.proofs.parts_at.Statement.{statement}
 use Rattle.untranslate_part.proofs.parts_at.Tie as tie
-use borrow.Author.Needs.{needs}
 
 returns : tie.Need-returns
 returns c = search cases depth 16
@@ -29,10 +28,13 @@ returns-8 : tie.Need-returns-8
 returns-8 c = rw (← c .before .before .role-at .ensures, c .enum-told4 .given .1) (search cases depth 16)
 
 returns-9 : tie.Need-returns-9
-returns-9 c = rw (← c .before .before .before .before .before .role-at .ensures, c .before .before .before .z .given .1) (search cases depth 16)
+returns-9 c = rw (← c .before .before .role-at .ensures, c .enum-told5 .given .1) (search cases depth 16)
 
 returns-10 : tie.Need-returns-10
-returns-10 c = rw (← c .before .before .role-at .ensures, c .enum-told5 .given .1) (search cases depth 16)
+returns-10 c = rw (← c .before .before .before .before .before .role-at .ensures, c .before .before .before .z .given .1) (search cases depth 16)
+
+returns-11 : tie.Need-returns-11
+returns-11 c = rw (← c .before .before .role-at .ensures, c .enum-told6 .given .1) (search cases depth 16)
 
 pub parts-at-spec : {M : Type 1} → statement M
 parts-at-spec =
@@ -48,6 +50,7 @@ parts-at-spec =
     (λ c. search needs)
     (λ c. search needs)
     (λ c. search needs)
+    (λ c. search needs)
     returns-3
     returns-4
     (λ c. search needs)
@@ -57,4 +60,5 @@ parts-at-spec =
     returns-7
     returns-8
     returns-9
-    returns-10)
+    returns-10
+    returns-11)

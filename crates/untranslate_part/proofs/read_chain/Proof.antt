@@ -3,7 +3,6 @@ use Rattle.untranslate_part.proofs.Chains.{chained-last, chained-asks, 
 use borrow.Author.Needs.{needs}
 use Rattle.untranslate_part.proofs.read_chain.Statement.{statement}
 use Rattle.untranslate_part.proofs.read_chain.Tie as tie
-use borrow.Author.Needs.{needs}
 
 returns : tie.Need-returns
 returns c = chained-missing _ _ _ _ _ _ (c .before .before .before .before .before .read-expression .ensures) (c .before .before .before .before .before .before .before .before .before .pre) _ (sym (c .enum-told .given .1) ∙ c .before .before .role-at .ensures) tt
@@ -23,6 +22,9 @@ returns-5 c = chained-missing _ _ _ _ _ _ (c .before .before .before .before .be
 returns-6 : tie.Need-returns-6
 returns-6 c = chained-missing _ _ _ _ _ _ (c .before .before .before .before .before .read-expression .ensures) (c .before .before .before .before .before .before .before .before .before .pre) _ (sym (c .enum-told4 .given .1) ∙ c .before .before .role-at .ensures) tt
 
+returns-7 : tie.Need-returns-7
+returns-7 c = chained-missing _ _ _ _ _ _ (c .before .before .before .before .before .read-expression .ensures) (c .before .before .before .before .before .before .before .before .before .pre) _ (sym (c .enum-told5 .given .1) ∙ c .before .before .role-at .ensures) tt
+
 pub read-chain-spec : {M : Type 1} → statement M
 read-chain-spec =
     tie.close
@@ -41,6 +43,7 @@ read-chain-spec =
     (λ c. search needs)
     (λ c. search needs)
     (λ c. search needs)
+    (λ c. search needs)
     returns
     (λ c. search needs)
     returns-2
@@ -51,4 +54,6 @@ read-chain-spec =
     (λ c. search needs)
     returns-5
     (λ c. search needs)
-    returns-6)
+    returns-6
+    (λ c. search needs)
+    returns-7)

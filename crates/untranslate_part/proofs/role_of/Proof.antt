@@ -3,7 +3,6 @@ use Rattle.base.proofs.Cases.{cases}
 use borrow.Author.Needs.{needs}
 use Rattle.untranslate_part.proofs.role_of.Statement.{statement}
 use Rattle.untranslate_part.proofs.role_of.Tie as tie
-use borrow.Author.Needs.{needs}
 
 returns : tie.Need-returns
 returns c = rw (c .before .before .o .given .1) (search cases depth 16)
@@ -21,7 +20,10 @@ returns-9 : tie.Need-returns-9
 returns-9 c = rw (c .before .o4 .given .1) refl
 
 returns-10 : tie.Need-returns-10
-returns-10 c = rw (c .enum-told5 .given .1) refl
+returns-10 c = rw (c .before .o5 .given .1) refl
+
+returns-11 : tie.Need-returns-11
+returns-11 c = rw (c .enum-told5 .given .1) refl
 
 pub role-of-spec : {M : Type 1} → statement M
 role-of-spec =
@@ -40,6 +42,7 @@ role-of-spec =
     (λ c. search needs)
     (λ c. search needs)
     (λ c. search needs)
+    (λ c. search needs)
     returns-4
     (λ c. search needs)
     (λ c. search needs)
@@ -47,4 +50,5 @@ role-of-spec =
     returns-8
     returns-9
     returns-10
+    returns-11
     (λ c. search needs))

@@ -1,15 +1,18 @@
 //! Ways to damage the orders of a translation.
 
+mod conditions;
+
 use crate::object::{Kind, Name, Order, STOP};
 use crate::random::Random;
 use crate::translate::Translation;
+use conditions::*;
 
 pub type Damage = fn(&mut Random, &mut Translation);
 
 /// Each with how many of 2,000 objects at least are read back, refused though they are good
 /// objects, and not even that.
 #[rustfmt::skip]
-pub const DAMAGES: [(&str, Damage, [usize; 3]); 35] = [
+pub const DAMAGES: [(&str, Damage, [usize; 3]); 43] = [
     ("an order replaced", replace, [100, 1000, 100]),
     ("a name changed", change_name, [100, 1000, 0]),
     ("a relation changed", change_relation, [2000, 0, 0]),
@@ -40,6 +43,14 @@ pub const DAMAGES: [(&str, Damage, [usize; 3]); 35] = [
     ("a SKIP taken out, the jumps moved along", drop_skip, [1000, 0, 0]),
     ("a SKIP put before a branch's target", put_in_skip, [10, 1000, 10]),
     ("the part of a branch taken out", drop_part, [0, 1000, 0]),
+    ("a COND's number moved by one", move_count, [50, 1000, 0]),
+    ("a COND's number that no condition has", no_count, [0, 2000, 0]),
+    ("a COND taken out, the jumps moved along", drop_cond, [50, 1000, 0]),
+    ("a COND put in, the jumps moved along", put_in_cond, [0, 1000, 0]),
+    ("a COND put before a comparison", put_in_before_if, [0, 1000, 0]),
+    ("a branch led elsewhere in its condition", lead_in_condition, [100, 1000, 0]),
+    ("a branch of a condition moved by one", lead_beside, [10, 1000, 0]),
+    ("a jump moved behind its COND", jump_behind_cond, [0, 2000, 0]),
     ("a plain operand by way of temporaries", by_temporaries, [0, 1000, 10]),
     ("V changed by one", change_variables, [100, 100, 100]),
     ("T changed by one", change_temporaries, [0, 1000, 100]),
@@ -119,11 +130,13 @@ pub fn some_order(random: &mut Random, translation: &Translation) -> Order {
             let address = some_address(random, translation);
             order(random.pick(&BRANCHES), Kind::Address, address)
         }
-        5 => order(
-            random.pick(&OPERATIONS),
-            Kind::Number,
-            random.below(9) as u32,
-        ),
+        5 => {
+            let name = match random.once_in(8) {
+                true => Name::Cond,
+                false => random.pick(&OPERATIONS),
+            };
+            order(name, Kind::Number, random.below(9) as u32)
+        }
         _ => {
             let word = some_word(random, translation);
             order(random.pick(&OPERATIONS), Kind::Word, word)

@@ -154,9 +154,10 @@ fn change_kind(random: &mut Random, text: &mut Vec<u8>) {
 }
 
 fn change_name(random: &mut Random, text: &mut Vec<u8>) {
-    let names: [&[u8]; 20] = [
-        b"LOAD", b"STR", b"NEG", b"SEND", b"STOP", b"JMP", b"SKIP", b"SKI", b"BE", b"OR", b"BOX",
-        b"", b"load", b"LOA", b"LOADS", b"B", b"BL", b"SENDS", b"CALL", b" ADD",
+    let names: [&[u8]; 23] = [
+        b"LOAD", b"STR", b"NEG", b"SEND", b"STOP", b"JMP", b"SKIP", b"SKI", b"BE", b"OR", b"COND",
+        b"CON", b"CONDS", b"BOX", b"", b"load", b"LOA", b"LOADS", b"B", b"BL", b"SENDS", b"CALL",
+        b" ADD",
     ];
     let line = some_line(random, text);
     set_field(text, line, 0, random.pick(&names), false);

@@ -1,7 +1,9 @@
 //! The form of a statement.
 
+mod conditions;
+
 use super::tokens::{Name, Token};
-use crate::compact::Place;
+use crate::compact::{Piece, Place};
 use crate::sheet::{Operator, Relation, Sign};
 
 /// A statement, its names and labels as they are written.
@@ -19,12 +21,8 @@ pub enum Statement<'t> {
 
 pub enum Instruction {
     Simple(Simple),
-    If {
-        relation: Relation,
-        left: Place,
-        right: Place,
-        parts: Parts,
-    },
+    /// The pieces of the statement are its condition.
+    If(Parts),
 }
 
 /// What stands behind `%THEN`.
@@ -64,18 +62,23 @@ fn level(operator: Operator) -> u32 {
     }
 }
 
-/// The statement that the tokens are, if they are of a form. The nodes of its expressions take the
-/// place of those that are in the list.
-pub fn parse<'t>(
-    tokens: &'t [Token],
-    cells: &[u8],
-    nodes: &mut Vec<Node>,
-) -> Option<Statement<'t>> {
-    nodes.clear();
+/// The lists that a statement's expressions and its condition are put into.
+#[derive(Default)]
+pub struct Lists {
+    pub nodes: Vec<Node>,
+    pub pieces: Vec<Piece>,
+}
+
+/// The statement that the tokens are, if they are of a form. Its nodes and pieces take the place of
+/// those that are in the lists.
+pub fn parse<'t>(tokens: &'t [Token], cells: &[u8], lists: &mut Lists) -> Option<Statement<'t>> {
+    lists.nodes.clear();
+    lists.pieces.clear();
     let mut parser = Parser {
         rest: tokens,
         cells,
-        nodes,
+        nodes: &mut lists.nodes,
+        pieces: &mut lists.pieces,
     };
     let statement = parser.statement()?;
     parser.rest.is_empty().then_some(statement)
@@ -86,6 +89,7 @@ struct Parser<'t, 's> {
     rest: &'t [Token],
     cells: &'s [u8],
     nodes: &'s mut Vec<Node>,
+    pieces: &'s mut Vec<Piece>,
 }
 
 impl<'t> Parser<'t, '_> {
@@ -141,24 +145,16 @@ impl<'t> Parser<'t, '_> {
             .then_some(Statement::FinishElseStart)
     }
 
-    /// A simple instruction, or "`%IF expr rel expr %THEN u` with an optional `%ELSE u`", or
-    /// "`%IF .. %THEN %START`".
+    /// A simple instruction, or an IF with its condition and what stands behind `%THEN`.
     fn instruction(&mut self) -> Option<Instruction> {
         if !self.take(Token::If) {
             return Some(Instruction::Simple(self.simple()?));
         }
-        let left = self.expression()?;
-        let relation = self.relation()?;
-        let right = self.expression()?;
+        self.condition()?;
         if !self.take(Token::Then) {
             return None;
         }
-        Some(Instruction::If {
-            relation,
-            left,
-            right,
-            parts: self.parts()?,
-        })
+        Some(Instruction::If(self.parts()?))
     }
 
     /// A group has no lone u for its other part: "Any other mixture is 7."

@@ -1,13 +1,14 @@
 //! The statements of a program in order: names, labels and limits.
 
-use super::grammar::{self, Instruction, Node, Simple, Statement};
+use super::grammar::{self, Instruction, Lists, Node, Simple, Statement};
 use super::tables::{Labels, Variables};
 use super::tokens::{Name, Token};
 use super::{refuse, GROUP_MISUSED, LABEL_MISUSED, NAME_MISUSED, NO_SUCH_FORM, OVER_LIMIT};
-use crate::compact::{self, Compact, Place};
-use crate::limits::{GREATEST_LABEL, MOST_LABELS, MOST_LEVELS};
+use crate::compact::{self, Compact, Line, Piece, Place};
+use crate::condition::Comparison;
+use crate::limits::{GREATEST_LABEL, MOST_COMPARISONS, MOST_LABELS, MOST_LEVELS};
 use crate::limits::{MOST_ORDERS, MOST_TEMPORARIES, MOST_VARIABLES};
-use crate::sheet::{self, Line};
+use crate::sheet;
 use crate::Refusal;
 
 /// A label that leads to this number and a level waits for the end of that level's IF.
@@ -47,11 +48,11 @@ struct Group {
     is_second: bool,
 }
 
-/// What a statement's names and nodes are looked up in.
+/// What a statement's names, nodes and pieces are looked up in.
 #[derive(Clone, Copy)]
 pub struct Parts<'s> {
     pub cells: &'s [u8],
-    pub nodes: &'s [Node],
+    pub lists: &'s Lists,
 }
 
 impl Program {
@@ -70,6 +71,7 @@ impl Program {
 
     /// Takes a statement by its number, from 1. Gives whether it is `%ENDOFPROGRAM`, or the number
     /// of its refusal.
+    #[inline]
     pub fn take(&mut self, statement: &Statement, parts: Parts, number: u32) -> Result<bool, u32> {
         self.part = self.next_part(statement).ok_or(NO_SUCH_FORM)?;
         match statement {
@@ -130,7 +132,7 @@ impl Program {
     /// Adds the statement's nodes behind those of the program, with words for names.
     fn add_nodes(&mut self, parts: Parts) -> Result<(), u32> {
         let first = self.sheet.nodes.len() as Place;
-        for node in parts.nodes {
+        for node in &parts.lists.nodes {
             let node = match *node {
                 Node::Name(name) => compact::Node::Word(self.word(name, parts.cells)?),
                 Node::Constant(value) => compact::Node::Constant(value),
@@ -144,24 +146,31 @@ impl Program {
         Ok(())
     }
 
+    /// Adds the statement's condition, whose nodes stand behind the first of them.
+    fn add_condition(&mut self, first: Place, parts: Parts) {
+        let place = self.sheet.pieces.len();
+        let pieces = parts.lists.pieces.iter().map(|piece| match piece {
+            Piece::Comparison(only) => Piece::Comparison(Comparison {
+                relation: only.relation,
+                left: first + only.left,
+                right: first + only.right,
+            }),
+            run => *run,
+        });
+        self.sheet.pieces.extend(pieces);
+        let condition = self.sheet.pieces_from(place);
+        self.put(Line::If(condition));
+    }
+
     /// Adds the lines of an instruction: of an IF with groups, only its own.
     fn instruction(&mut self, instruction: &Instruction, parts: Parts) -> Result<(), u32> {
         let first = self.sheet.nodes.len() as Place;
         self.add_nodes(parts)?;
-        let (relation, left, right, simples) = match instruction {
+        let simples = match instruction {
             Instruction::Simple(only) => return self.simple(only, first, parts.cells),
-            Instruction::If {
-                relation,
-                left,
-                right,
-                parts,
-            } => (*relation, first + left, first + right, parts),
+            Instruction::If(simples) => simples,
         };
-        self.put(Line::If {
-            relation,
-            left,
-            right,
-        });
+        self.add_condition(first, parts);
         let grammar::Parts::Simple(then, otherwise) = simples else {
             return Ok(());
         };
@@ -187,7 +196,7 @@ impl Program {
         Ok(())
     }
 
-    fn put(&mut self, line: Line<Place>) {
+    fn put(&mut self, line: Line) {
         self.instructions += u32::from(line.is_instruction());
         self.sheet.lines.push(line);
     }
@@ -206,10 +215,11 @@ impl Program {
     }
 
     /// Holds the lines from a place on: their jumps to being labels, and the set labels, the levels,
-    /// the temporaries and the orders to their limits.
+    /// the comparisons, the temporaries and the orders to their limits.
     fn hold(&mut self, first: usize, number: u32) -> Result<(), u32> {
         let mut temporaries = 0;
         let mut levels = 0;
+        let mut comparisons = 0;
         for place in first..self.sheet.lines.len() {
             let line = self.sheet.lines[place];
             if let Line::Simple(sheet::Simple::Goto(label)) = line {
@@ -218,8 +228,9 @@ impl Program {
                 }
                 self.jumps.push(number);
             }
-            if let Line::If { .. } = line {
+            if let Line::If(condition) = line {
                 levels = self.groups.len() + 1;
+                comparisons = self.sheet.pieces(condition)[0].comparisons() as usize;
             }
             let count = self.sheet.count(&line);
             self.orders += count.orders;
@@ -228,6 +239,7 @@ impl Program {
         // "Orders are over at the first statement where those so far and STOP pass" the most
         if self.labels.count() > MOST_LABELS
             || levels > MOST_LEVELS
+            || comparisons > MOST_COMPARISONS
             || temporaries > MOST_TEMPORARIES
             || self.orders as usize + 1 > MOST_ORDERS
         {
@@ -299,13 +311,7 @@ impl Program {
 
 /// Whether an instruction is an IF with groups.
 fn is_group(instruction: &Option<Instruction>) -> bool {
-    matches!(
-        instruction,
-        Some(Instruction::If {
-            parts: grammar::Parts::Group,
-            ..
-        })
-    )
+    matches!(instruction, Some(Instruction::If(grammar::Parts::Group)))
 }
 
 fn is_label(number: u32) -> bool {

@@ -2,6 +2,7 @@
 
 use super::cells::KEYWORD;
 use super::{CONSTANT_INVALID, UNKNOWN_KEYWORD};
+use crate::condition::Joining;
 use crate::limits::MOST_NUMBER;
 use crate::sheet::{Operator, Relation};
 
@@ -15,6 +16,7 @@ pub enum Token {
     Else,
     Start,
     Finish,
+    Joining(Joining),
     Name(Name),
     Decimal(u32),
     Quoted(u32),
@@ -47,7 +49,7 @@ impl Name {
 }
 
 /// None begins another, so the one that stands is the longest.
-const KEYWORDS: [(&[u8], Token); 8] = [
+const KEYWORDS: [(&[u8], Token); 10] = [
     (b"BEGIN", Token::Begin),
     (b"ENDOFPROGRAM", Token::EndOfProgram),
     (b"INTEGER", Token::Integer),
@@ -56,6 +58,8 @@ const KEYWORDS: [(&[u8], Token); 8] = [
     (b"ELSE", Token::Else),
     (b"START", Token::Start),
     (b"FINISH", Token::Finish),
+    (b"AND", Token::Joining(Joining::And)),
+    (b"OR", Token::Joining(Joining::Or)),
 ];
 
 /// The most characters of a quoted constant.

@@ -10,9 +10,11 @@ pub fn put(random: &mut Random, sheet: &mut Sheet) {
             Line::Simple(Simple::Set(_, value) | Simple::Send(value)) => {
                 put_in_expression(random, value);
             }
-            Line::If { left, right, .. } => {
-                put_in_expression(random, left);
-                put_in_expression(random, right);
+            Line::If(condition) => {
+                for only in condition.comparisons_mut() {
+                    put_in_expression(random, &mut only.left);
+                    put_in_expression(random, &mut only.right);
+                }
             }
             _ => {}
         }

@@ -1,5 +1,7 @@
 //! Ways to change the tokens and statements of a program, and the bytes of a source.
 
+mod conditions;
+
 use super::program::Statements;
 use super::soup;
 use super::token::Token;
@@ -9,7 +11,7 @@ use crate::random::Random;
 pub fn change(random: &mut Random, statements: &mut Statements) {
     let place = random.below(statements.len());
     let other = random.below(statements.len());
-    match random.below(15) {
+    match random.below(18) {
         0 => {
             statements.remove(place);
             if statements.is_empty() {
@@ -29,6 +31,7 @@ pub fn change(random: &mut Random, statements: &mut Statements) {
         5 => statements.insert(place, vec![Token::Symbol("->"), soup::some_label(random)]),
         6 => statements.truncate(place.max(1)),
         7..=9 => change_group(random, statements, place),
+        10..=12 => conditions::change(random, statements),
         _ => change_token(random, &mut statements[place]),
     }
 }

@@ -23,6 +23,7 @@ const FORMS: &[&str] = &[
     "%ELSE ",
     "%START ",
     "%FINISH ",
+    "%AND ",
     "A",
     "=",
     "1",
@@ -36,6 +37,9 @@ const FORMS: &[&str] = &[
     "%BEGIN ",
     ";",
 ];
+/// Comparisons with what joins them, and what nearly does.
+const JOINED: &[&str] = &["", "A=1", "(", ")", "%AND ", "%OR "];
+const BRACKETED: &[&str] = &["", "A", "=", "(", ")", "-", "%OR "];
 const STATEMENTS: &[&str] = &[
     "",
     "%BEGIN\n",
@@ -61,7 +65,7 @@ const GROUPS: &[&str] = &[
     "->1\n",
 ];
 const KEYWORDS: &[&str] = &[
-    "", "%", " ", "if", "IF", "THEN", "A", "a=", "1", "%c\n", "C\n", "=",
+    "", "%", " ", "if", "IF", "THEN", "and", "OR", "A", "a=", "1", "%c\n", "C\n", "=",
 ];
 const ZEROS: &[&str] = &["", "0", "00000000000"];
 const HIGH_DIGITS: &[&str] = &["", "21474836", "42949672", "99999999", "1844674407370955"];
@@ -79,7 +83,7 @@ const GROUPS_BEFORE: &[&str] = &[
     "%IF A=1%THEN %START\nA=1\n%FINISH%ELSE%START\n",
 ];
 
-/// The kinds, about a million sources in all.
+/// The kinds, some two and a half million sources in all.
 pub fn kinds() -> Vec<Kind> {
     let within = |start, part: &'static [&'static str], times: usize, end| {
         let mut rows: Vec<&'static [&'static str]> = vec![START, start];
@@ -121,6 +125,14 @@ pub fn kinds() -> Vec<Kind> {
                 &["", ";1:", "%ELSE A=1"],
                 END,
             ],
+        ),
+        kind(
+            "joined conditions",
+            within(&["%IF "], JOINED, 7, &["%THEN A=1"]),
+        ),
+        kind(
+            "brackets of conditions",
+            within(&["%IF A", "%IF (A"], BRACKETED, 6, &["1%THEN A=1"]),
         ),
         kind("forms", within(&[""], FORMS, 4, &["", "A=1"])),
         kind(

@@ -1,5 +1,7 @@
 //! Sources at a limit, one below it or a little above it, with other refusals next to it.
 
+mod comparisons;
+
 use super::spelled_sheet;
 use crate::limits::{GREATEST_LABEL, MOST_CELLS, MOST_LABELS, MOST_LEVELS};
 use crate::limits::{MOST_ORDERS, MOST_SOURCE, MOST_TEMPORARIES, MOST_VARIABLES};
@@ -9,7 +11,7 @@ type Maker = fn(&mut Random) -> Vec<u8>;
 
 /// A source of any of the kinds below. Those of many bytes come less often.
 pub fn source(random: &mut Random) -> Vec<u8> {
-    const MAKERS: [Maker; 8] = [
+    const MAKERS: [Maker; 9] = [
         cells,
         cells_at_the_end,
         variables,
@@ -17,6 +19,7 @@ pub fn source(random: &mut Random) -> Vec<u8> {
         temporaries,
         orders,
         levels,
+        comparisons::source,
         open_groups,
     ];
     match random.below(40) {

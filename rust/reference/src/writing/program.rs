@@ -1,12 +1,14 @@
 //! A sheet as the tokens of a program, its names, labels and brackets chosen at random.
 
+mod conditions;
+
 use super::spelling::length;
 use super::token::Token;
 use crate::limits::{GREATEST_LABEL, MOST_CELLS, MOST_LABELS, MOST_VARIABLES};
 use crate::object::LINK_WORDS;
 use crate::random::Random;
-use crate::sheet::{closings, Expression, Line, Operator, Relation, Sheet, Sign, Simple};
-use crate::sheet::{OPERATORS, RELATIONS};
+use crate::sheet::OPERATORS;
+use crate::sheet::{closings, Expression, Line, Operator, Sheet, Sign, Simple};
 use std::collections::BTreeSet;
 
 /// The tokens of each statement.
@@ -177,7 +179,7 @@ struct Writer<'r> {
     labels: Vec<Vec<u32>>,
     /// Those of them that no statement has yet.
     unset: Vec<Vec<u32>>,
-    /// Once in so many times an operand gets brackets that it does not need.
+    /// Once in so many times an operand or a condition gets brackets that it does not need.
     brackets: usize,
     /// Those of the statement being written.
     tokens: Vec<Token>,
@@ -229,12 +231,10 @@ impl Writer<'_> {
         let instruction = groups.before[place];
         match &groups.lines[place] {
             Line::Simple(simple) => self.simple(simple),
-            Line::If {
-                relation,
-                left,
-                right,
-            } => {
-                self.condition(*relation, left, right);
+            Line::If(condition) => {
+                self.tokens.push(Token::Keyword("IF"));
+                self.condition(condition);
+                self.tokens.push(Token::Keyword("THEN"));
                 let end = self.parts(groups, place);
                 self.put_labelled(instruction);
                 return end;
@@ -262,14 +262,6 @@ impl Writer<'_> {
             let label = Token::Decimal(unset.pop().expect("a label"));
             self.statements.push(vec![label, Token::Symbol(":")]);
         }
-    }
-
-    fn condition(&mut self, relation: Relation, left: &Expression, right: &Expression) {
-        self.tokens.push(Token::Keyword("IF"));
-        self.expression(left);
-        self.put(RELATIONS[relation as usize].1);
-        self.expression(right);
-        self.tokens.push(Token::Keyword("THEN"));
     }
 
     /// Puts what stands behind `%THEN`: mostly the parts themselves where they are such that they may

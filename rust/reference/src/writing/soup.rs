@@ -65,18 +65,7 @@ fn statement(random: &mut Random) -> Vec<Token> {
                 _ => name(random),
             }));
         }
-        3 | 4 => {
-            tokens.push(Token::Keyword("IF"));
-            expression(random, &mut tokens);
-            tokens.push(relation(random));
-            expression(random, &mut tokens);
-            tokens.push(Token::Keyword("THEN"));
-            part(random, &mut tokens);
-            if random.once_in(3) {
-                tokens.push(Token::Keyword("ELSE"));
-                part(random, &mut tokens);
-            }
-        }
+        3 | 4 => conditional(random, &mut tokens),
         10 | 11 => {
             // a label before it is never good
             if !random.once_in(4) {
@@ -113,11 +102,52 @@ pub fn words(text: &'static str) -> impl Iterator<Item = Token> {
     text.split(' ').map(Token::Keyword)
 }
 
+fn conditional(random: &mut Random, tokens: &mut Vec<Token>) {
+    tokens.push(Token::Keyword("IF"));
+    condition(random, tokens);
+    tokens.push(Token::Keyword("THEN"));
+    part(random, tokens);
+    if random.once_in(3) {
+        tokens.push(Token::Keyword("ELSE"));
+        part(random, tokens);
+    }
+}
+
 /// What may stand behind `%THEN` and `%ELSE`.
 fn part(random: &mut Random, tokens: &mut Vec<Token>) {
     match random.below(2) {
         0 => tokens.push(Token::Keyword("START")),
         _ => simple(random, tokens),
+    }
+}
+
+/// Comparisons, brackets and joining words, now and then in places of any kind.
+fn condition(random: &mut Random, tokens: &mut Vec<Token>) {
+    let word = random.pick(&["AND", "OR"]);
+    loop {
+        if random.once_in(4) {
+            tokens.push(Token::Symbol("("));
+            condition(random, tokens);
+            tokens.push(Token::Symbol(")"));
+        } else {
+            comparison(random, tokens);
+        }
+        if !random.once_in(3) {
+            return;
+        }
+        tokens.push(match random.below(16) {
+            0 => keyword(random),
+            1 => Token::Keyword(random.pick(&["AND", "OR"])),
+            _ => Token::Keyword(word),
+        });
+    }
+}
+
+fn comparison(random: &mut Random, tokens: &mut Vec<Token>) {
+    expression(random, tokens);
+    if !random.once_in(32) {
+        tokens.push(relation(random));
+        expression(random, tokens);
     }
 }
 
@@ -203,6 +233,11 @@ pub fn keyword(random: &mut Random) -> Token {
             "THENSTART",
             "STARTS",
             "FINIS",
+            "ANDOR",
+            "ORAND",
+            "ANDS",
+            "AN",
+            "O",
             "X",
             "CC",
         ]),

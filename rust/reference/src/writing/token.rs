@@ -12,8 +12,8 @@ pub enum Token {
 }
 
 #[rustfmt::skip]
-pub const KEYWORDS: [&str; 8] = [
-    "BEGIN", "ENDOFPROGRAM", "INTEGER", "IF", "THEN", "ELSE", "START", "FINISH",
+pub const KEYWORDS: [&str; 10] = [
+    "BEGIN", "ENDOFPROGRAM", "INTEGER", "IF", "THEN", "ELSE", "START", "FINISH", "AND", "OR",
 ];
 
 #[rustfmt::skip]

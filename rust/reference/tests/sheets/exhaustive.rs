@@ -2,6 +2,7 @@
 
 use std::ops::RangeInclusive;
 
+use skimp_reference::condition::Condition;
 use skimp_reference::generate::every_list;
 use skimp_reference::object::{Kind, Name, Order, STOP};
 use skimp_reference::sheet::{Expression, Line, Operator, Relation, Sheet, Sign, Simple};
@@ -85,11 +86,8 @@ impl Parts {
         for compared in 2..orders {
             let parts = self.parts(orders - compared - 1, count - 1, whole);
             for ((left, right), lines) in pairs(&self.operands(compared), &parts) {
-                let line = Line::If {
-                    relation: Relation::Equal,
-                    left,
-                    right,
-                };
+                let condition = Condition::comparison(Relation::Equal, left, right);
+                let line = Line::If(condition);
                 all.push([vec![line], lines].concat());
             }
         }
@@ -211,6 +209,7 @@ fn without_temporaries() {
             order(Name::Neg, Kind::Nothing, 0),
             order(Name::Send, Kind::Nothing, 0),
             order(Name::Str, Kind::Word, 2),
+            order(Name::Cond, Kind::Number, 2),
             STOP,
         ];
         for name in [Name::Load, Name::Sub, Name::Cmp] {
@@ -247,6 +246,44 @@ fn jumps() {
         parts.check(&alphabet, 6, 0),
         7_usize.pow(6) + (3 + 2 + 1) * 5 * 5 * 5 + 4 * 4
     );
+}
+
+/// Enough orders for a condition of two comparisons. Sheets of eight orders are: eight jumps; an IF that
+/// ends at order 7, at four places, or at order 8, at five; an IF in another, both ending at 8, with a
+/// jump more at three places, or the inner one at 7; and both runs of two comparisons.
+#[test]
+fn joined_conditions() {
+    let mut alphabet = vec![
+        order(Name::Cond, Kind::Number, 2),
+        order(Name::Load, Kind::Number, 0),
+        order(Name::Cmp, Kind::Number, 0),
+        order(Name::Jmp, Kind::Address, 0),
+    ];
+    alphabet.extend(to_each(&[Name::Bne], 7..=8));
+    let mut translation = Translation {
+        variables: 0,
+        temporaries: 0,
+        orders: Vec::new(),
+    };
+    let (mut accepted, mut joined) = (0, Vec::new());
+    every_list(&alphabet, 8, |list| {
+        translation.orders.clear();
+        translation.orders.extend_from_slice(list);
+        if let Some(sheet) = untranslate(&translation) {
+            accepted += 1;
+            let is_joined = list.iter().any(|order| order.name == Name::Cond);
+            joined.extend(is_joined.then(|| sheet.text().replace('\t', " ")));
+        }
+    });
+    joined.sort();
+    assert_eq!(
+        joined,
+        [
+            "SHEET 0 2\nIF AND 2 = K0 K0 = K0 K0\nSTART\nGOTO 1\nFINISH\n",
+            "SHEET 0 2\nIF OR 2 # K0 K0 = K0 K0\nSTART\nGOTO 1\nFINISH\n",
+        ]
+    );
+    assert_eq!(accepted, 1 + (4 + 5) + (3 + 2) + 2);
 }
 
 #[test]

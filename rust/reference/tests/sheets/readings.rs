@@ -1,5 +1,6 @@
 //! Values that stand in document 01 or are worked out from it by hand.
 
+use skimp_reference::condition::Condition;
 use skimp_reference::interpret::{Ending, Meaning};
 use skimp_reference::object::{Kind, Name, Order};
 use skimp_reference::sheet::{Expression, Line, Operator, Relation, Sheet, Sign, Simple};
@@ -34,22 +35,18 @@ fn goto(instruction: u32) -> Line {
     Line::Simple(Simple::Goto(instruction))
 }
 
+fn compared(relation: Relation, left: Expression, right: Expression) -> Line {
+    Line::If(Condition::comparison(relation, left, right))
+}
+
 /// An IF that holds, of three orders.
 fn equal_zeros() -> Line {
-    Line::If {
-        relation: Relation::Equal,
-        left: number(0),
-        right: number(0),
-    }
+    compared(Relation::Equal, number(0), number(0))
 }
 
 /// An IF that fails, of three orders.
 fn unequal_zeros() -> Line {
-    Line::If {
-        relation: Relation::Unequal,
-        left: number(0),
-        right: number(0),
-    }
+    compared(Relation::Unequal, number(0), number(0))
 }
 
 /// Document 01's worked program.
@@ -61,11 +58,7 @@ fn worked() -> Sheet {
         lines: vec![
             set(2, number(3)),
             set(3, binary(Operator::Sub, word(2), quotient)),
-            Line::If {
-                relation: Relation::Greater,
-                left: word(3),
-                right: number(4),
-            },
+            compared(Relation::Greater, word(3), number(4)),
             send(word(3)),
             Line::Else,
             goto(6),
@@ -76,7 +69,7 @@ fn worked() -> Sheet {
 }
 
 /// The translation of a sheet, as a line of orders with spaces for tabs.
-fn orders(sheet: &Sheet) -> String {
+pub fn orders(sheet: &Sheet) -> String {
     let text = translate(sheet).expect("within the limits").text();
     text.trim_end().replace('\t', " ").replace('\n', "; ")
 }
@@ -186,11 +179,7 @@ fn comparison_never_wraps() {
         let sheet = Sheet {
             variables: 0,
             lines: vec![
-                Line::If {
-                    relation,
-                    left: number(2147483647),
-                    right: least(),
-                },
+                compared(relation, number(2147483647), least()),
                 send(number(1)),
                 Line::Else,
                 send(number(0)),
@@ -259,7 +248,7 @@ fn small_translations() {
 
 /// The sheet text that a translation with no variable, written as `orders` writes it, is read
 /// back to.
-fn read_back(orders: &str) -> Option<String> {
+pub fn read_back(orders: &str) -> Option<String> {
     let order = |record: &str| {
         let [name, kind, number] = record.split(' ').collect::<Vec<_>>()[..] else {
             panic!("{record}");
@@ -274,11 +263,17 @@ fn read_back(orders: &str) -> Option<String> {
             "LOAD" => Name::Load,
             "SUB" => Name::Sub,
             "CMP" => Name::Cmp,
+            "COND" => Name::Cond,
             "BE" => Name::Be,
             "BNE" => Name::Bne,
+            "BLT" => Name::Blt,
+            "BLE" => Name::Ble,
+            "BGT" => Name::Bgt,
+            "BGE" => Name::Bge,
             "STR" => Name::Str,
             "JMP" => Name::Jmp,
             "SKIP" => Name::Skip,
+            "NEG" => Name::Neg,
             "SEND" => Name::Send,
             "STOP" => Name::Stop,
             _ => panic!("{record}"),

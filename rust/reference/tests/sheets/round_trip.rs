@@ -2,6 +2,7 @@
 
 use skimp_reference::agree::{Compared, READ_BACK};
 use skimp_reference::census::Census;
+use skimp_reference::condition::Joining;
 use skimp_reference::count::counts;
 use skimp_reference::generate::Plan;
 use skimp_reference::random::Random;
@@ -44,6 +45,10 @@ fn small_sheets() {
     for orders in 1..=40 {
         assert!(census.with_orders(orders) >= 1000, "{orders} orders");
     }
+    for comparisons in 1..=11 {
+        let count = census.conditions.with(comparisons);
+        assert!(count >= 30, "{count} IFs of {comparisons} comparisons");
+    }
     assert!(census.with_instructions(0) >= 1000);
 }
 
@@ -65,6 +70,14 @@ fn large_sheets() {
         assert!(count >= 2, "{count} sheets with {temporaries}");
     }
     assert_eq!(census.with_temporaries(1), 0);
+    for comparisons in 1..=16 {
+        let count = census.conditions.with(comparisons);
+        assert!(count >= 100, "{count} IFs of {comparisons} comparisons");
+    }
+    for word in [Joining::And, Joining::Or] {
+        let count = census.conditions.deep(word);
+        assert!(count >= 500, "{count} runs of {word:?} in three others");
+    }
     for variables in [0, 1, 63, 64, 65, 127, 128] {
         assert!(census.with_variables(variables) >= 10, "V {variables}");
     }

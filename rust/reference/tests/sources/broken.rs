@@ -1,5 +1,7 @@
 //! Readers with a mistake each, which the comparison must find.
 
+mod conditions;
+
 use skimp_reference::agree::{Call, Compared, COMPILE};
 use skimp_reference::random::Random;
 use skimp_reference::source::read;

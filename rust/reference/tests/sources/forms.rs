@@ -70,7 +70,6 @@ fn instructions() {
         ("%IF A= %THEN A=1", "7 at 3"),
         ("%IF =A %THEN A=1", "7 at 3"),
         ("%IF A=B=1 %THEN A=1", "7 at 3"),
-        ("%IF (A=B) %THEN A=1", "7 at 3"),
         ("%IF A=B %THEN %IF A=B %THEN A=1", "7 at 3"),
         ("%IF A=B %THEN A=1 %ELSE %IF A=B %THEN A=1", "7 at 3"),
         ("%IF A=B %THEN 1: A=1", "7 at 3"),

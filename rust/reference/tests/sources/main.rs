@@ -5,6 +5,7 @@ mod broken;
 mod checks;
 mod chunks;
 mod compare;
+mod conditions;
 mod forms;
 mod groups;
 mod limits;

@@ -37,6 +37,10 @@ fn spelled_sheets() {
         assert!(count >= 10, "{count} sheets with {depth} levels");
     }
     assert!(census.with_instructions(0) >= 1000);
+    for comparisons in 1..=16 {
+        let count = census.conditions.with(comparisons);
+        assert!(count >= 20, "{count} IFs of {comparisons} comparisons");
+    }
     for variables in [0, 1, 63, 64, 65, 127, 128] {
         assert!(census.with_variables(variables) >= 1000, "V {variables}");
     }

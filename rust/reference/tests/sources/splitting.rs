@@ -11,7 +11,7 @@ const LEVELS: [&[&str]; 3] = [
 ];
 
 /// The fields of an expression, if the tokens are one. Only with `begins` may a sign be first.
-fn fields(tokens: &[&str], begins: bool) -> Option<String> {
+pub fn fields(tokens: &[&str], begins: bool) -> Option<String> {
     for level in LEVELS {
         let Some(place) = last_outside_brackets(tokens, level) else {
             continue;
@@ -51,7 +51,7 @@ fn last_outside_brackets(tokens: &[&str], operators: &[&str]) -> Option<usize> {
 }
 
 /// Visits every list of up to so many of the tokens.
-fn every_list<'t>(tokens: &[&'t str], most: usize, visit: &mut impl FnMut(&[&'t str])) {
+pub fn every_list<'t>(tokens: &[&'t str], most: usize, visit: &mut impl FnMut(&[&'t str])) {
     fn go_on<'t>(
         list: &mut Vec<&'t str>,
         tokens: &[&'t str],

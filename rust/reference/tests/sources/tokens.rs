@@ -17,7 +17,6 @@ fn keywords() {
     ]);
     check_third(&[
         ("%IF A=B %THEN A=1 %ELSEIF", "7 at 3"),
-        ("%IF A=B %AND B=A %THEN A=1", "5 at 3"),
         // keyword letters are no letters of a name
         ("CA%T = 1", "5 at 3"),
         ("A%IF", "7 at 3"),

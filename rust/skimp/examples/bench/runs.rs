@@ -145,11 +145,16 @@ fn programs() -> Vec<Program> {
     // a condition that holds in the first part of another, so that two SKIPs come in a row
     let groups = "LOAD D 2;CMP K 0;BLT A 12;LOAD D 2;CMP K 0;BLT A 9;LOAD D 2;STR D 3;SKIP A 11;\
                   LOAD K 0;STR D 3;SKIP A 14;LOAD K 1;STR D 3";
+    // (1 %AND 2) %OR (3 %AND 4), each of them about a bit of the counter
+    let joined =
+        "COND K 4;LOAD D 2;AND K 1;CMP K 0;BNE A 9;LOAD D 2;AND K 2;CMP K 0;BE A 17;LOAD D 2;\
+                  AND K 4;CMP K 0;BNE A 19;LOAD D 2;AND K 8;CMP K 0;BNE A 19;LOAD D 2;STR D 3";
     let mut programs = vec![
         Program::new("counting", Vec::new(), 2_000_000, 0),
         Program::new("expression", sum, 80_000, 0),
         Program::new("dividing", divisions(), 300_000, 0),
         Program::new("groups", orders(groups), 1_000_000, 0),
+        Program::new("joined", orders(joined), 1_000_000, 0),
         Program::new("sending", sends, 1_000_000, 4 * 4_000_000),
     ];
     programs.extend(SIZES.map(long_loop));

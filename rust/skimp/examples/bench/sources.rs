@@ -1,7 +1,8 @@
 //! Sources: a small program, 60 names of 200 letters and as many short ones as there may be, a random
-//! program, groups in groups, and those found to cost most for a byte or most against the reference.
+//! program, joined conditions, groups in groups, and those found to cost most for a byte or most against
+//! the reference.
 
-use skimp::{MOST_LABELS, SOURCE_MOST};
+use skimp::{MOST_COMPARISONS, MOST_LABELS, SOURCE_MOST};
 use skimp_reference::generate::Plan;
 use skimp_reference::random::Random;
 use skimp_reference::writing::program::write;
@@ -56,6 +57,10 @@ fn of_sizes() -> Vec<Input> {
         Input::of_sizes("jumps", jumps),
         Input::of_sizes("conditions", |size| conditions(size, "", 4)),
         Input::of_sizes("with ELSE", |size| conditions(size, "%ELSE->1", 6)),
+        Input::of_sizes("joined", |size| joined(size, &run(MOST_COMPARISONS))),
+        Input::of_sizes("joined, deep", |size| {
+            joined(size, &deep_condition(MOST_COMPARISONS))
+        }),
         Input::of_sizes("groups", |size| with_a(&groups(size))),
         Input::of_sizes("deep groups", |size| with_a(&deep_groups(size))),
         Input::of_sizes("chains", |size| with_a(&chains(size, "A=A", "-A"))),
@@ -191,6 +196,26 @@ fn jumps(size: Size) -> String {
 fn conditions(size: Size, otherwise: &str, orders: usize) -> String {
     let condition = format!("%IF A=A%THEN->1{otherwise}\n");
     with_a(&format!("1:{}", condition.repeat(size.orders / orders)))
+}
+
+/// IFs with a condition of the most comparisons, as many as fit: COND, three orders of each comparison,
+/// and a jump.
+fn joined(size: Size, condition: &str) -> String {
+    let orders = 1 + 3 * MOST_COMPARISONS + 1;
+    let statement = format!("%IF {condition}%THEN->1\n");
+    with_a(&format!("1:{}", statement.repeat(size.orders / orders)))
+}
+
+/// A run of so many comparisons.
+fn run(count: usize) -> String {
+    vec!["A=A"; count].join("%AND ")
+}
+
+/// Runs of the two words in turn, each the last member of the one before it.
+fn deep_condition(count: usize) -> String {
+    let word = |place: usize| ["A=A%AND(", "A=A%OR("][place % 2];
+    let open: String = (0..count - 1).map(word).collect();
+    format!("{open}A=A{}", ")".repeat(count - 1))
 }
 
 /// Groups with a second one behind each, of ten orders, one after the other.

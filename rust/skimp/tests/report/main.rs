@@ -26,7 +26,7 @@ use page::Case;
 const PAGE: &str = include_str!("../../../../docs/REPORT.md");
 
 /// The page has so many cases, at least: one that is read as text would be missed otherwise.
-const LEAST_CASES: usize = 175;
+const LEAST_CASES: usize = 183;
 
 /// What the calls make of a case where it is not what the page says.
 fn difference(case: &Case) -> Option<String> {

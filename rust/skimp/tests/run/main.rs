@@ -2,6 +2,7 @@
 //! values of document 01 worked out by hand.
 
 mod call;
+mod conditions;
 mod damaged;
 mod limits;
 mod orders;

@@ -4,7 +4,8 @@ use skimp_reference::random::{Random, EDGES};
 use skimp_reference::rests::Rests;
 
 use crate::call::Call;
-use crate::program::{order, state, Order, Program, WITH_ADDRESS, WITH_NOTHING, WITH_VALUE};
+use crate::program::{order, state, Order, Program};
+use crate::program::{WITH_ADDRESS, WITH_NOTHING, WITH_NUMBER, WITH_VALUE};
 
 const RANDOM_PAIRS: usize = 300;
 const HALVES: usize = 4000;
@@ -18,6 +19,7 @@ fn every_order() -> Vec<(&'static str, char)> {
     for name in WITH_VALUE {
         orders.extend([(name, 'D'), (name, 'K')]);
     }
+    orders.extend(WITH_NUMBER.map(|name| (name, 'K')));
     orders.extend(WITH_ADDRESS.map(|name| (name, 'A')));
     orders.extend(WITH_NOTHING.map(|name| (name, '-')));
     orders
@@ -77,7 +79,7 @@ fn every_order_on_edges_and_random_words() {
     }
     pairs.extend((0..RANDOM_PAIRS).map(|_| (random.pattern(), random.pattern())));
     let orders = every_order();
-    assert_eq!(orders.len(), 36);
+    assert_eq!(orders.len(), 37);
     for (name, kind) in orders {
         let mut faults = 0;
         let mut clear = 0;

@@ -9,6 +9,8 @@ use crate::call::Call;
 pub const WITH_VALUE: [&str; 12] = [
     "LOAD", "ADD", "SUB", "MLT", "DIV", "EXP", "SHL", "SHR", "AND", "OR", "XOR", "CMP",
 ];
+/// COND takes a number and no word.
+pub const WITH_NUMBER: [&str; 1] = ["COND"];
 pub const WITH_ADDRESS: [&str; 8] = ["JMP", "SKIP", "BE", "BNE", "BLT", "BLE", "BGT", "BGE"];
 /// STOP is not among them, since it may only be the last order.
 pub const WITH_NOTHING: [&str; 3] = ["NEG", "NOT", "SEND"];
@@ -121,7 +123,10 @@ fn random_order(
             let target = random.between(lowest, length - 1);
             order(random.pick(&WITH_ADDRESS), 'A', target as u32)
         }
-        5 => order(random.pick(&["NEG", "NOT"]), '-', 0),
+        5 => match random.below(3) {
+            0 => order(random.pick(&WITH_NUMBER), 'K', number(random)),
+            _ => order(random.pick(&["NEG", "NOT"]), '-', 0),
+        },
         6 if may_fault => order("SEND", '-', 0),
         _ if may_fault => with_value(random, &WITH_VALUE, words),
         _ => with_value(random, &NEVER_FAULTING, words),

@@ -18,14 +18,15 @@ const BAD_HEADERS: [&str; 37] = [
 
 /// Records that are good as the middle one of three.
 #[rustfmt::skip]
-const GOOD_LINES: [&str; 13] = [
+const GOOD_LINES: [&str; 20] = [
     "LOAD D 2", "LOAD D 3", "LOAD K 0", "LOAD K 2147483647", "STR D 2", "JMP A 0", "BE A 1",
-    "BGE A 2", "CMP K 7", "OR D 3", "SEND - 0", "NEG - 0", "NOT - 0",
+    "BGE A 2", "CMP K 7", "OR D 3", "SEND - 0", "NEG - 0", "NOT - 0", "COND K 0", "COND K 1",
+    "COND K 2", "COND K 16", "COND K 17", "COND K 2147483646", "COND K 2147483647",
 ];
 
 /// Lines refused with 22.
 #[rustfmt::skip]
-const BAD_LINES: [&str; 54] = [
+const BAD_LINES: [&str; 70] = [
     "", "LOAD", "LOAD D", "LOAD D ", "LOAD D 2 ", "LOAD D 2 0", "LOAD_D 2", "LOAD D_2",
     "_LOAD D 2", "LOAD D 2_", "LOAD D 02", "LOAD K 00", "LOAD K 07", "LOAD K +1", "LOAD K -1",
     "LOAD K 2147483648", "LOAD K 4294967296", "LOAD K 99999999999999999999", "LOAD K 1x",
@@ -33,7 +34,9 @@ const BAD_LINES: [&str; 54] = [
     "LOAD  2", " D 2", "STR K 2", "STR A 2", "STR - 0", "JMP D 2", "JMP K 2", "JMP - 0", "BE D 2",
     "BGE K 1", "B A 1", "BL A 1", "BLEE A 1", "NEG - 1", "NEG K 0", "NEG D 2", "NEG - 00",
     "NEG - ", "NOT A 0", "SEND D 2", "SEND - 5", "STOP - 1", "STOP K 0", "STOP A 0", "BOX 1 1 3",
-    "LOAD D 2\r", "CALL A 0", "LOAD D 2\0",
+    "LOAD D 2\r", "CALL A 0", "LOAD D 2\0", "COND D 2", "COND D 3", "COND A 0", "COND A 2",
+    "COND - 0", "COND - 2", "COND K", "COND K ", "COND K 02", "COND K 00", "COND K -1",
+    "COND K 2147483648", "CON K 2", "CONDS K 2", "cond K 2", "COND K 2 2",
 ];
 
 /// Calls with a text in which spaces stand for tabs and `_` for a space.

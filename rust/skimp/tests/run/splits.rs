@@ -5,7 +5,7 @@ use skimp_reference::random::Random;
 use crate::call::{Call, Outcome};
 use crate::program::{random_call, Program, Style};
 
-const PROGRAMS: usize = 800;
+const PROGRAMS: usize = 1000;
 const MOST_BUDGET: usize = 64;
 
 /// The call that goes on from an outcome.

@@ -6,7 +6,7 @@ use crate::program::state;
 /// Document 01's worked object.
 const WORKED: &[u8] = include_bytes!("../../../../examples/worked.box");
 
-fn call(object: &[u8], state: Vec<u8>, output: Vec<u8>, budget: u32) -> Outcome {
+pub fn call(object: &[u8], state: Vec<u8>, output: Vec<u8>, budget: u32) -> Outcome {
     let call = Call {
         object: object.to_vec(),
         state,
@@ -17,7 +17,7 @@ fn call(object: &[u8], state: Vec<u8>, output: Vec<u8>, budget: u32) -> Outcome 
 }
 
 /// The object of some orders, with two variables. Spaces stand for tabs.
-fn object(orders: &[&str]) -> Vec<u8> {
+pub fn object(orders: &[&str]) -> Vec<u8> {
     let text = format!("BOX 2 0 {}\n{}\n", orders.len(), orders.join("\n"));
     text.replace(' ', "\t").into_bytes()
 }

@@ -1,5 +1,7 @@
 //! Inputs that need much stack, and random ones: what is refused counts as well as what is accepted.
 
+mod conditions;
+
 use skimp_reference::damage::orders::DAMAGES;
 use skimp_reference::generate::Plan;
 use skimp_reference::random::Random;
@@ -145,6 +147,7 @@ fn names() -> Vec<String> {
 fn sources() -> Vec<Vec<u8>> {
     let program = |text: String| format!("%BEGIN\n%INTEGER A\n{text}\n%ENDOFPROGRAM\n");
     let texts = statements().into_iter().chain(groups());
+    let texts = texts.chain(conditions::statements());
     let mut sources: Vec<String> = texts.map(program).collect();
     // full tables: names, labels, jumps; and cells in quotes up to the last
     sources.extend(names());
@@ -170,7 +173,7 @@ const STARTS: [&str; 6] = [
 ];
 
 /// What comes over and over.
-const PARTS: [&str; 18] = [
+const PARTS: [&str; 21] = [
     "NEG - 0",
     "NOT - 0",
     "SUB K 1",
@@ -186,6 +189,9 @@ const PARTS: [&str; 18] = [
     "SEND - 0",
     "LOAD D 2;CMP K 0;BNE A stop;JMP A 0",
     "LOAD D 2;CMP K 0;BNE A stop",
+    "COND K 2",
+    "COND K 2;LOAD D 2;CMP K 0;BNE A stop;LOAD D 2;CMP K 0;BNE A stop",
+    "COND K 16;LOAD D 2;CMP K 0;BE A last",
     "STR D 3;LOAD D 2;NEG - 0;STR D 4;LOAD D 3;SUB D 4",
     "STR D 3;STR D 4;LOAD D 3;SUB D 4",
     "STR D 4;LOAD D 3;SUB D 4",
@@ -249,6 +255,7 @@ fn objects() -> Vec<Vec<u8>> {
     for levels in [1, LEVELS - 1, LEVELS, LEVELS + 1, 200] {
         objects.extend([inner_parts(levels), skips(levels)]);
     }
+    objects.extend(conditions::objects());
     let mut random = Random(82);
     let most = [skimp::MOST_VARIABLES, skimp::MOST_TEMPORARIES, ORDERS + 1];
     for one in [false, true] {

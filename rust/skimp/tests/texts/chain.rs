@@ -81,7 +81,7 @@ fn from_large_sources() {
     let name = "large chains, seed 62";
     let mut random = Random(62);
     let mut chain = Chain::new();
-    for _ in 0..300 {
+    for _ in 0..400 {
         let sheet = Plan::large_program(&mut random);
         let Some(statements) = program::write(&mut random, &sheet) else {
             continue;

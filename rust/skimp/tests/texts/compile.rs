@@ -1,7 +1,7 @@
 //! Compile.
 
 mod exhaustive;
-mod limits;
+pub mod limits;
 mod names;
 mod random_sources;
 mod rooms;

@@ -3,6 +3,7 @@
 
 mod chain;
 mod compile;
+mod conditions;
 mod most;
 mod read_back;
 mod worked;

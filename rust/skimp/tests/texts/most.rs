@@ -42,6 +42,7 @@ fn constants_of_the_header() {
         ("SKIMP_MOST_LABELS", skimp::MOST_LABELS),
         ("SKIMP_GREATEST_LABEL", skimp::GREATEST_LABEL),
         ("SKIMP_MOST_LEVELS", skimp::MOST_LEVELS),
+        ("SKIMP_MOST_COMPARISONS", skimp::MOST_COMPARISONS),
         ("SKIMP_MOST_CELLS", skimp::MOST_CELLS),
         ("SKIMP_SOURCE_MOST", skimp::SOURCE_MOST),
         ("SKIMP_OBJECT_MOST", skimp::OBJECT_MOST),
@@ -74,6 +75,7 @@ fn limits_of_the_papers() {
     assert_eq!(skimp::MOST_LABELS, limits::MOST_LABELS);
     assert_eq!(skimp::GREATEST_LABEL, limits::GREATEST_LABEL as usize);
     assert_eq!(skimp::MOST_LEVELS, limits::MOST_LEVELS);
+    assert_eq!(skimp::MOST_COMPARISONS, limits::MOST_COMPARISONS);
     assert_eq!(skimp::MOST_CELLS, limits::MOST_CELLS);
     assert_eq!(skimp::SOURCE_MOST, limits::MOST_SOURCE);
 }

@@ -131,7 +131,8 @@ fn compare() {
 #[test]
 fn one_more() {
     let limits =
-        "over 128 variables, 64 set labels, 16 levels, 32 temporaries, or 2,048 orders with STOP";
+        "over 128 variables, 64 set labels, 16 levels, 16 comparisons, 32 temporaries, or \
+                  2,048 orders with STOP";
     let session = Session::new();
     session.put("a.skimp", source(129, 2048));
     let refusal = format!("a.skimp:6: statement 6: {limits} [11]\n    %INTEGER V128");

@@ -3,6 +3,7 @@
 
 mod commands;
 mod compare;
+mod conditions;
 mod files;
 mod killed;
 mod limits;

@@ -3,7 +3,7 @@
 use crate::session::{printed, repository, Session};
 use std::fs;
 
-fn text(name: &str) -> String {
+pub fn text(name: &str) -> String {
     fs::read_to_string(repository(name)).expect("a file")
 }
 
@@ -75,16 +75,20 @@ fn limits_in_the_manual() {
     let temporaries = format!("{} temporaries", skimp::MOST_TEMPORARIES);
     let labels = format!("{} labels", skimp::MOST_LABELS);
     let levels = format!("{} deep", skimp::MOST_LEVELS);
+    let comparisons = format!("{} comparisons", skimp::MOST_COMPARISONS);
     let cells = format!("{} characters", skimp::MOST_CELLS - 1);
     let bytes = format!("{} bytes", thousands(skimp::SOURCE_MOST));
     let greatest = format!("over {}", skimp::GREATEST_LABEL);
     for (start, limits) in [
-        ("Limits: ", vec![&bytes, &cells, &labels, &levels]),
+        (
+            "Limits: ",
+            vec![&bytes, &cells, &labels, &levels, &comparisons],
+        ),
         ("Limits: ", vec![&variables, &orders, &temporaries]),
         ("| 1 | 0", vec![&bytes]),
         ("| 4 | the statement", vec![&cells]),
         ("| 9 | the statement", vec![&greatest]),
-        ("| 11 | the statement", vec![&labels, &levels]),
+        ("| 11 | the statement", vec![&labels, &levels, &comparisons]),
         (
             "| 11 | the statement",
             vec![&variables, &orders, &temporaries],

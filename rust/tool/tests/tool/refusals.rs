@@ -61,7 +61,8 @@ const SOURCES: [(u32, &str, &str); 11] = [
 fn long_sources() -> [(u32, Vec<u8>, String); 4] {
     let labels: String = (1..=65).map(|label| format!("{label}:\n")).collect();
     let limits =
-        "over 128 variables, 64 set labels, 16 levels, 32 temporaries, or 2,048 orders with STOP";
+        "over 128 variables, 64 set labels, 16 levels, 16 comparisons, 32 temporaries, or \
+                  2,048 orders with STOP";
     let sum = "1+".repeat(150);
     [
         (1, vec![b' '; 16_385], ": source too long [1]".to_string()),

@@ -7,9 +7,9 @@ use skimp_reference::agree::{Compared, COMPILE};
 use crate::compile_call;
 
 /// Acceptance, or a number and a place.
-type Expected = Result<(), (u32, u32)>;
+pub type Expected = Result<(), (u32, u32)>;
 
-fn hold(what: &str, sources: &[(String, Expected)]) {
+pub fn hold(what: &str, sources: &[(String, Expected)]) {
     let mut compared = Compared::new(COMPILE, compile_call);
     for (place, (source, expected)) in sources.iter().enumerate() {
         let outcome = compared.check(what, source.as_bytes());
@@ -18,7 +18,7 @@ fn hold(what: &str, sources: &[(String, Expected)]) {
     }
 }
 
-fn program(statements: &str) -> String {
+pub fn program(statements: &str) -> String {
     format!("%BEGIN\n%INTEGER A\n{statements}\n%ENDOFPROGRAM\n")
 }
 

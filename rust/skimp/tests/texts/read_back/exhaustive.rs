@@ -20,6 +20,7 @@ fn alphabet(count: usize) -> Vec<Order> {
         order(Name::Load, Kind::Word, 2),
         order(Name::Sub, Kind::Number, 0),
         order(Name::Cmp, Kind::Word, 2),
+        order(Name::Cond, Kind::Number, 2),
     ];
     for address in 0..=count as u32 {
         orders.push(order(Name::Jmp, Kind::Address, address));

@@ -2,6 +2,8 @@
 
 use skimp_reference::agree::{Compared, READ_BACK};
 use skimp_reference::census::Census;
+use skimp_reference::condition::{Comparison, Condition, Joining};
+use skimp_reference::generate::conditions::joined;
 use skimp_reference::generate::Plan;
 use skimp_reference::random::Random;
 use skimp_reference::sheet::{Expression, Line, Relation, Sheet, Simple};
@@ -99,11 +101,9 @@ fn plain_sheets() {
 #[test]
 fn levels() {
     let mut compared = Compared::new(READ_BACK, read_back_call);
-    let condition = Line::If {
-        relation: Relation::Equal,
-        left: Expression::Constant(0),
-        right: Expression::Constant(0),
-    };
+    let zero = || Expression::Constant(0);
+    let condition = Condition::comparison(Relation::Equal, zero(), zero());
+    let condition = Line::If(condition);
     let goto = || Line::Simple(Simple::Goto(1));
     for levels in 1..=18 {
         for has_else in [false, true] {
@@ -127,6 +127,48 @@ fn levels() {
             };
             let expected = if levels <= 16 { Ok(()) } else { Err(refusal) };
             assert_eq!(outcome, expected, "{levels} levels");
+        }
+    }
+}
+
+/// Comparisons of one IF, in runs of every kind: sixteen are a sheet's, seventeen are not.
+#[test]
+fn comparisons() {
+    let name = "comparisons, seed 74";
+    let mut random = Random(74);
+    let mut compared = Compared::new(READ_BACK, read_back_call);
+    for count in 2..=19 {
+        for turn in 0..40 {
+            let word = [Joining::And, Joining::Or][turn % 2];
+            let condition = match turn {
+                // one run of all
+                0 | 1 => Condition::Run(word, (0..count).map(Condition::Comparison).collect()),
+                _ => joined(&mut random, word, &mut (0..count), count),
+            };
+            let condition = condition.map(&mut |number| Comparison {
+                relation: Relation::Less,
+                left: Expression::Word(2),
+                right: Expression::Constant(*number as u32),
+            });
+            let sheet = Sheet {
+                variables: 1,
+                lines: vec![
+                    Line::If(condition),
+                    Line::Simple(Simple::Goto(1)),
+                    Line::Finish,
+                ],
+            };
+            if count <= 16 {
+                check_sheet(&mut compared, name, &sheet);
+                continue;
+            }
+            let text = without_limits(&sheet).text();
+            let refusal = Refusal {
+                number: 31,
+                place: 0,
+            };
+            let outcome = compared.check(name, text.as_bytes());
+            assert_eq!(outcome, Err(refusal), "{}", sheet.text());
         }
     }
 }

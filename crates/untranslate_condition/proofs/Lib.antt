@@ -1,0 +1,4 @@
+pub mod Places
+pub mod Leads
+pub mod Members
+pub mod Conditions
