@@ -11,15 +11,16 @@ const SHEET: &str =
     "SHEET 2 6\nSET 2 K3\nSET 3 - W2 / - K2 K5 K2\nIF > W3 K4\nSTART\nSEND W3\nELSE\n\
                      GOTO 6\nFINISH\nSEND W2\n";
 
-type Shown = Result<String, (u32, u32)>;
+pub type Shown = Result<String, (u32, u32)>;
 
-fn object(source: &str) -> Shown {
+/// The object of a source with spaces for tabs.
+pub fn object(source: &str) -> Shown {
     let mut buffer = vec![b'~'; skimp::OBJECT_MOST];
     shown(skimp::compile(source.as_bytes(), &mut buffer))
 }
 
 /// The sheet of an object with spaces for tabs.
-fn sheet_of(object: &str) -> Shown {
+pub fn sheet_of(object: &str) -> Shown {
     let mut buffer = vec![b'~'; skimp::SHEET_MOST];
     let object = object.replace(' ', "\t");
     shown(skimp::read_back(object.as_bytes(), &mut buffer))

@@ -59,6 +59,9 @@ fn program(condition: Condition, answers: &[bool], has_else: bool) -> Sheet {
     sheet(variables, lines)
 }
 
+/// No path below has so many orders.
+const MOST_STEPS: usize = 100;
+
 /// The orders that the machine carries out or faults at, by their places, up to its end.
 fn path(sheet: &Sheet) -> (Vec<usize>, u32) {
     let translation = translate(sheet).expect("within the limits");
@@ -66,7 +69,7 @@ fn path(sheet: &Sheet) -> (Vec<usize>, u32) {
     let words = 2 + translation.variables + translation.temporaries;
     let mut state = vec![0; 20 + 4 * words as usize];
     let mut path = Vec::new();
-    loop {
+    while path.len() < MOST_STEPS {
         let next = state[4..8].try_into().expect("four bytes");
         path.push(u32::from_be_bytes(next) as usize);
         let reply = skimp_reference::run(&object, &mut state, &mut [0; 4], 1);
@@ -80,6 +83,7 @@ fn path(sheet: &Sheet) -> (Vec<usize>, u32) {
             return (path, reply.number);
         }
     }
+    panic!("no end: {path:?}\n{}", sheet.text());
 }
 
 /// The path of a program that sends, by document 01's rules for each form: a SET has two orders, and

@@ -124,6 +124,8 @@ fn brackets() {
         "A=1 %AND (B)",
         "(A) %AND B=1",
         "(A %AND B)=1",
+        "(A %AND)=1",
+        "(A+B %OR)*2=1",
         "(A=1) %AND (B+1)",
     ]);
 }

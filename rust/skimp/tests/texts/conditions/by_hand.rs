@@ -1,20 +1,6 @@
 //! Joined conditions in texts that no reference has a part in.
 
-use crate::shown;
-
-type Shown = Result<String, (u32, u32)>;
-
-fn object(source: &str) -> Shown {
-    let mut buffer = vec![b'~'; skimp::OBJECT_MOST];
-    shown(skimp::compile(source.as_bytes(), &mut buffer))
-}
-
-/// The sheet of an object with spaces for tabs.
-fn sheet_of(object: &str) -> Shown {
-    let mut buffer = vec![b'~'; skimp::SHEET_MOST];
-    let object = object.replace(' ', "\t");
-    shown(skimp::read_back(object.as_bytes(), &mut buffer))
-}
+use crate::worked::{object, sheet_of};
 
 /// The examples of the report's Chapter 8, with a comparison of A for each `sc`: their fields, and the
 /// orders before the parts.
