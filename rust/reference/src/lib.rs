@@ -23,6 +23,7 @@ pub mod object;
 pub mod random;
 pub mod rests;
 pub mod runs;
+pub mod samples;
 pub mod sheet;
 pub mod source;
 mod text;

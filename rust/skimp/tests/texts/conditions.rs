@@ -7,19 +7,10 @@ mod limits;
 mod near;
 mod random;
 
-use skimp_reference::condition::{Comparison, Condition};
-use skimp_reference::sheet::{Expression, Line, Relation, Sheet, Simple};
+use skimp_reference::condition::Condition;
+use skimp_reference::samples::{goto, of_variables, send, sheet};
 
-/// The condition whose comparison of number k asks whether the variable k is 1.
-fn of_variables(shape: &Condition<usize>) -> Condition {
-    shape.map(&mut |number| Comparison {
-        relation: Relation::Equal,
-        left: Expression::Word(2 + *number as u32),
-        right: Expression::Constant(1),
-    })
-}
-
-/// The same as source text.
+/// The condition whose comparison of number k asks whether the variable k is 1, as source text.
 fn texts(shape: &Condition<usize>) -> Condition<String> {
     shape.map(&mut |number| format!("V{number}=1"))
 }
@@ -28,19 +19,4 @@ fn texts(shape: &Condition<usize>) -> Condition<String> {
 fn declared(count: usize) -> String {
     let names: Vec<String> = (0..count).map(|number| format!("V{number}")).collect();
     format!("%INTEGER {}\n", names.join(","))
-}
-
-fn send(number: u32) -> Line {
-    Line::Simple(Simple::Send(Expression::Constant(number)))
-}
-
-fn goto(instruction: u32) -> Line {
-    Line::Simple(Simple::Goto(instruction))
-}
-
-fn sheet(variables: usize, lines: Vec<Line>) -> Sheet {
-    Sheet {
-        variables: variables as u32,
-        lines,
-    }
 }
