@@ -24,14 +24,14 @@ use Rattle.sheet.specs.Condition.{comparisons, AllExpressed, mostCompari
 use Rattle.sheet.specs.Condition.{trying, leaving, tryCode, asking, askingCode}
 use Rattle.sheet.specs.Translation.{size, firstOrder, partCode, translation}
 use Rattle.sheet.specs.Within.{PartFormed, mostLevels, depth}
-use Rattle.sheet.specs.Guess.{Read, one, forward, Test, Tests, tests, oneMore, testRead, testsFrom, isSkip, isCond, between}
+use Rattle.sheet.specs.Guess.{Read, one, forward, Test, Tests, tests, oneMore, testRead, testsFrom, isSkip, isCond, between, onAt, alike}
 use Rattle.sheet.specs.Guess.{choice, onRead, guess, place, numberOf, numbered, guessed}
 use Rattle.sheet.proofs.Sizes.{simple-length, simple-some, try-length, asking-some, asking-length, count-size, code-length}
 use Rattle.sheet.proofs.Starts.{number-first}
 use Rattle.sheet.proofs.Retargeted.{starts-same, part-again}
 use Rattle.sheet.proofs.Reading.{expression-again, comparison-again, stops-before}
 use Rattle.sheet.proofs.Lasts.{no-skip-last}
-use Rattle.sheet.proofs.Trees.{onAt, alike, testsOf, tests-to, opposite-twice, tree-again}
+use Rattle.sheet.proofs.Trees.{testsOf, tests-to, opposite-twice, tree-again}
 
 -- ---- places in the orders
 

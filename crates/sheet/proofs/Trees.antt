@@ -14,20 +14,11 @@ use Rattle.sheet.specs.declared.Joining.the-variants.{And, Or}
 use Rattle.sheet.specs.Sheet.{Expression, Condition, compares, joins}
 use Rattle.sheet.specs.Orders.{opposite}
 use Rattle.sheet.specs.Condition.{comparisons, sameWord, isRun, Merged, trying, leaving}
-use Rattle.sheet.specs.Guess.{Test, test, lastTo, lastOn, Cut, cut, longer, furthest, firstMember}
+use Rattle.sheet.specs.Guess.{Test, test, lastTo, lastOn, Cut, cut, longer, furthest, firstMember, onAt, alike}
 use Rattle.sheet.specs.Guess.{other, wordOf, goesOn, onCut, tree}
 use Rattle.sheet.proofs.Sizes.{trying-some, comparisons-some}
 
 -- ---- the tests of a condition
-
--- the answer at which a word goes on
-abbrev pub onAt : Joining → Bool
-onAt And = true
-onAt Or = false
-
-abbrev pub alike : Bool → Bool → Bool
-alike true b = b
-alike false b = other b
 
 -- The tests of a condition that begins with order p: on the answer g they fall through, on the other they lead to order d. Where
 -- the answer that settles a run in its first member is g, that member leads to the order behind them all
@@ -97,22 +88,22 @@ longer-cut : (xs ys zs : List Test) → longerAll xs (cut ys zs) ≡ cut (xs ++ 
 longer-cut [] ys zs = refl
 longer-cut (t ∷ xs) ys zs = ap (longer t) (longer-cut xs ys zs)
 
-furthest-in : (e m a : ℕ) → a < e → furthest e m a ≡ max m a
+pub furthest-in : (e m a : ℕ) → a < e → furthest e m a ≡ max m a
 unfolding pick
 furthest-in e m a h = rw (lt-ltb a e h)
 
-furthest-out : (e m a : ℕ) → e ≤ a → furthest e m a ≡ m
+pub furthest-out : (e m a : ℕ) → e ≤ a → furthest e m a ≡ m
 unfolding pick
 furthest-out e m a h = rw (le-ltb a e h)
 
 -- Two conditions, the first up to order s and both up to order n; the first leads to order f, the second to d. Then the first leads
 -- beyond its end, and where it leads makes no difference behind the second
-record Beyond (e m s d f : ℕ) : Type 0 where
-  further : s < furthest e m f
-  ahead : s < f
-  over : furthest e (furthest e m f) d ≡ furthest e m d
+pub record Beyond (e m s d f : ℕ) : Type 0 where
+  pub further : s < furthest e m f
+  pub ahead : s < f
+  pub over : furthest e (furthest e m f) d ≡ furthest e m d
 
-beyond : (e m s n d : ℕ) (t : Bool) → s < n → n < e → n < d → n < furthest e m d → Beyond e m s d (pick t d n)
+pub beyond : (e m s n d : ℕ) (t : Bool) → s < n → n < e → n < d → n < furthest e m d → Beyond e m s d (pick t d n)
 unfolding pick
 beyond e m s n d true h k l far =
     record {
@@ -135,12 +126,12 @@ beyond e m s n d false h k l far =
     }
 
 -- where the furthest is order n, and the first of two leads there or out of them all
-still : (e n d : ℕ) (t : Bool) → n < e → e ≤ d → (furthest e n (pick t d n) ≡ n) × (n ≤ pick t d n)
+pub still : (e n d : ℕ) (t : Bool) → n < e → e ≤ d → (furthest e n (pick t d n) ≡ n) × (n ≤ pick t d n)
 unfolding pick
 still e n d true h k = (furthest-out e n d k, omega arith)
 still e n d false h k = (furthest-in e n n h ∙ omega arith, omega arith)
 
-other-word : (w u : Joining) → sameWord w u ≡ false → alike (onAt u) (onAt w) ≡ false
+pub other-word : (w u : Joining) → sameWord w u ≡ false → alike (onAt u) (onAt w) ≡ false
 other-word And And e = e
 other-word And Or e = refl
 other-word Or And e = refl
@@ -241,16 +232,16 @@ opposite-twice AtMost = refl
 opposite-twice Greater = refl
 opposite-twice AtLeast = refl
 
-leaving-twice : (g : Bool) (r : Relation) → leaving g (leaving g r) ≡ r
+pub leaving-twice : (g : Bool) (r : Relation) → leaving g (leaving g r) ≡ r
 leaving-twice true r = opposite-twice r
 leaving-twice false r = refl
 
-word-again : (w : Joining) → wordOf (onAt w) ≡ w
+pub word-again : (w : Joining) → wordOf (onAt w) ≡ w
 word-again And = refl
 word-again Or = refl
 
 -- the answer at which the first goes on, by where its last branch leads
-goes-on : (w : Joining) (g : Bool) (e d : ℕ) → e < d → goesOn g e (pick (alike (onAt w) g) d e) ≡ onAt w
+pub goes-on : (w : Joining) (g : Bool) (e d : ℕ) → e < d → goesOn g e (pick (alike (onAt w) g) d e) ≡ onAt w
 unfolding pick
 goes-on And true e d h = rw (ne-eqb d e (omega arith))
 goes-on And false e d h = rw (eq-eqb e e refl)
@@ -272,7 +263,7 @@ unfolding lastOn firstMember pick
 one-again rec g r x y d n h =
     let z = furthest-out n 0 d (omega arith) in rw (le-leb (furthest n 0 d) n (omega arith))
 
-outside : (n d : ℕ) (t : Bool) → n < d → n ≤ pick t d n
+pub outside : (n d : ℕ) (t : Bool) → n < d → n ≤ pick t d n
 unfolding pick
 outside n d true h = omega arith
 outside n d false h = omega arith

@@ -124,6 +124,16 @@ abbrev pub wordOf : Bool → Joining
 wordOf true = AndRun
 wordOf false = OrRun
 
+-- the answer at which a word goes on
+abbrev pub onAt : Joining → Bool
+onAt AndRun = true
+onAt OrRun = false
+
+-- whether two answers are the same
+abbrev pub alike : Bool → Bool → Bool
+alike true b = b
+alike false b = other b
+
 -- the answer at which the second of two is tried, by where the first leads: that answer falls through the first, and the other is the
 -- answer of both. Where this falls through both, the first leads to their end
 abbrev pub goesOn : Bool → ℕ → ℕ → Bool

@@ -8,7 +8,6 @@ use lib.ListN.{length, set, take, length-append}
 use lib.Seq.{sets, set-set, length-take-le}
 use Rattle.base.specs.Choice.{pick}
 use Rattle.word.specs.declared.Relation.{Relation}
-use Rattle.word.specs.declared.Relation.the-variants.{Equal, Unequal, Less, AtMost, Greater, AtLeast}
 use Rattle.order.specs.declared.Order.{Order}
 use Rattle.order.specs.declared.Order.the-variants.{Branch}
 use Rattle.sheet.specs.declared.Joining.{Joining}
@@ -17,34 +16,23 @@ use Rattle.sheet.specs.declared.Field.the-variants.{Else, Compare, Run}
 use Rattle.sheet.specs.Sheet.{Expression, Condition, compares, joins}
 use Rattle.sheet.specs.Fields.{expressionFields}
 use Rattle.sheet.specs.Memory.{conditionFields}
-use Rattle.sheet.specs.Orders.{comparisonCode, opposite}
+use Rattle.sheet.specs.Orders.{comparisonCode}
 use Rattle.sheet.specs.Formed.{Expressed}
 use Rattle.sheet.specs.Condition.{Merged, AllExpressed, trying, leaving, tryCode}
-use Rattle.sheet.specs.Guess.{wordOf}
+use Rattle.sheet.specs.Guess.{wordOf, onAt, alike}
 use Rattle.sheet.proofs.Sizes.{trying-some}
+use Rattle.sheet.proofs.Trees.{leaving-twice, word-again, goes-on, outside}
 use Rattle.sheet_field.specs.Memory.{fieldWord}
 use Rattle.untranslate_expression.specs.declared.Spot.{Spot}
 use Rattle.untranslate_expression.specs.Internal.{ordersAt, firstOrder, Put, Writes, Wrote, Reading}
 use Rattle.untranslate_expression.proofs.Places.{set-sets, writes-more, safe-more}
 use Rattle.untranslate_expression.proofs.Links.{comparison-chain}
 use Rattle.untranslate_condition.specs.declared.Lead.the-variants.{To, Nowhere}
-use Rattle.untranslate_condition.specs.Internal.{leadOf, leadAt, memberEnd, FirstMember, goesOnBy, onAt, alike, farCode, Compared, Trying}
+use Rattle.untranslate_condition.specs.Internal.{leadOf, leadAt, memberEnd, FirstMember, goesOnBy, farCode, Compared, Trying}
 use Rattle.untranslate_condition.proofs.Places.{orders-length, orders-past, orders-before}
-use Rattle.untranslate_condition.proofs.Members.{outside, one-member, run-member, word-again, on-told}
+use Rattle.untranslate_condition.proofs.Members.{one-member, run-member}
 
 -- ---- the orders that try a condition
-
-pub opposite-twice : (r : Relation) → opposite (opposite r) ≡ r
-opposite-twice Equal = refl
-opposite-twice Unequal = refl
-opposite-twice Less = refl
-opposite-twice AtMost = refl
-opposite-twice Greater = refl
-opposite-twice AtLeast = refl
-
-leaving-twice : (g : Bool) (r : Relation) → leaving g (leaving g r) ≡ r
-leaving-twice true r = opposite-twice r
-leaving-twice false r = refl
 
 module _ (v : ℕ) where
   pub far-length : (p : ℕ) (g : Bool) (d : ℕ) (c : Condition) → length (farCode v p g d c) ≡ trying v c
@@ -275,7 +263,7 @@ module _ (os : List ℕ) (p : ℕ) (falls : Bool) (first : ℕ) (fs : List ℕ) 
           stands ∙ ap (λ i. farCode v p (onAt w) (pick (alike (onAt w) falls) d i) a ++ ys) (told .0) in
           let there : p + length xs ≡ q = ap (λ i. p + i) (far-length v p (onAt w) z a) ∙ here in
           let branch = branch-before os v p q (onAt w) z a ys apart here in
-          let goes : on ≡ onAt w = its ∙ ap (goesOnBy falls (length os)) (branch .is) ∙ on-told w falls (length os) d far in
+          let goes : on ≡ onAt w = its ∙ ap (goesOnBy falls (length os)) (branch .is) ∙ goes-on w falls (length os) d far in
           let joined : t ≡ w = word ∙ ap wordOf goes ∙ word-again w in
           let beyond = outside (length os) d (alike (onAt w) falls) far in
           let short = length-take-le q os (omega arith) in

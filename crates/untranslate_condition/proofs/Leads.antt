@@ -1,7 +1,7 @@
 -- Where orders lead: by their numbers, in a loop over them, and in the orders of expressions and conditions.
 use Prim.Native.Nat.{ℕ, suc, _+_, _-_, _/_, _%_, _≤_, _<_}
 use mathlib.Core.Path.{_≡_, refl, sym, ap, _∙_}
-use mathlib.Core.Bool.{Bool, true, false}
+use mathlib.Core.Bool.{Bool}
 use mathlib.Core.List.{List, [], _∷_, _++_, append-assoc}
 use native.Mathlib.Omega.{arith}
 use native.Mathlib.Numerals.{add-one}
@@ -25,11 +25,12 @@ use Rattle.sheet.specs.Condition.{comparisons, AllExpressed, trying}
 use Rattle.sheet_field.specs.Memory.{relations}
 use Rattle.sheet.proofs.Each.{Each}
 use Rattle.sheet.proofs.CodeOrders.{OfExpression, comparison-orders}
+use Rattle.sheet.specs.Guess.{onAt}
 use Rattle.untranslate_expression.specs.Internal.{ordersAt, firstOrder}
 use Rattle.untranslate_expression.proofs.Places.{orders-inside, none-outside}
 use Rattle.untranslate_condition.specs.declared.Lead.{Lead}
 use Rattle.untranslate_condition.specs.declared.Lead.the-variants.{To, Nowhere}
-use Rattle.untranslate_condition.specs.Internal.{leadOf, leadAt, leftBy, branchesEnd, PastBranches, farCode, onAt}
+use Rattle.untranslate_condition.specs.Internal.{leadOf, leadAt, leftBy, branchesEnd, PastBranches, farCode}
 
 -- ---- by numbers
 

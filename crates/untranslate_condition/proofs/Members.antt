@@ -1,34 +1,33 @@
 -- The first member of a run, told from orders: where the first condition of the run ends.
-use Prim.Native.Nat.{ℕ, _+_, _≤_, _<_, max}
+use Prim.Native.Nat.{ℕ, _+_, _≤_, _<_}
 use mathlib.Core.Path.{_≡_, refl, sym, ap, _∙_}
 use mathlib.Core.Bool.{Bool, true, false, not}
 use mathlib.Core.List.{List, [], _∷_, _++_, append-assoc, append-nil}
 use native.Mathlib.Omega.{arith}
-use borrow.Author.Tests.{lt-ltb, le-ltb, le-leb, lt-leb, eq-eqb, ne-eqb}
+use borrow.Author.Tests.{le-leb, lt-leb, eq-eqb, ne-eqb}
 use lib.Dec.{leb}
 use lib.ListN.{length}
 use Rattle.base.specs.Choice.{pick}
-use Rattle.base.proofs.Cases.{by-less}
 use Rattle.word.specs.declared.Relation.{Relation}
 use Rattle.order.specs.declared.Order.{Order}
 use Rattle.order.specs.declared.Order.the-variants.{Branch}
 use Rattle.sheet.specs.declared.Joining.{Joining}
-use Rattle.sheet.specs.declared.Joining.the-variants.{And, Or}
 use Rattle.sheet.specs.Sheet.{Expression, Condition, compares, joins}
 use Rattle.sheet.specs.Orders.{comparisonCode, comparisonTemporaries}
 use Rattle.sheet.specs.Formed.{Expressed}
-use Rattle.sheet.specs.Condition.{sameWord, isRun, Merged, AllExpressed, trying}
-use Rattle.sheet.specs.Guess.{furthest, other, wordOf, goesOn}
+use Rattle.sheet.specs.Condition.{isRun, Merged, AllExpressed, trying}
+use Rattle.sheet.specs.Guess.{furthest, other, onAt, alike}
 use Rattle.sheet.proofs.Each.{Each}
 use Rattle.sheet.proofs.CodeOrders.{OfExpression, comparison-orders}
 use Rattle.sheet.proofs.Sizes.{trying-some}
+use Rattle.sheet.proofs.Trees.{furthest-in, furthest-out, beyond, still, other-word, outside}
 use Rattle.untranslate_expression.specs.Internal.{ordersAt}
 use Rattle.untranslate_expression.proofs.Places.{orders-inside, none-outside}
 use Rattle.untranslate_condition.specs.declared.Lead.{Lead}
 use Rattle.untranslate_condition.specs.declared.Lead.the-variants.{To}
 use Rattle.untranslate_condition.specs.declared.Step.{Step}
 use Rattle.untranslate_condition.specs.declared.Step.the-variants.{On, Ended as Over}
-use Rattle.untranslate_condition.specs.Internal.{leadOf, leadAt, stepBy, onStep, memberEnd, FirstMember, goesOnBy, onAt, alike, farCode}
+use Rattle.untranslate_condition.specs.Internal.{leadAt, stepBy, onStep, memberEnd, FirstMember, goesOnBy, farCode}
 use Rattle.untranslate_condition.proofs.Leads.{leads-nowhere}
 
 -- ---- one order
@@ -85,58 +84,6 @@ module _ (os : List ℕ) (p k m : ℕ) (on : p ≤ k) (far : p ≤ length os →
     inside = far;
     is = sym (ap (memberEnd (length os) m k) (none-outside k os h)) ∙ same;
   }
-
--- ---- how far branches lead
-
-furthest-in : (e m a : ℕ) → a < e → furthest e m a ≡ max m a
-unfolding pick
-furthest-in e m a h = rw (lt-ltb a e h) refl
-
-furthest-out : (e m a : ℕ) → e ≤ a → furthest e m a ≡ m
-unfolding pick
-furthest-out e m a h = rw (le-ltb a e h) refl
-
--- a condition up to order n that leads to order d or, where it is the first of two, to their end: nothing but the outermost counts
-record Beyond (e m s d f : ℕ) : Type 0 where
-  further : s < furthest e m f
-  ahead : s < f
-  over : furthest e (furthest e m f) d ≡ furthest e m d
-
-beyond : (e m s n d : ℕ) (t : Bool) → s < n → n < e → n < d → n < furthest e m d → Beyond e m s d (pick t d n)
-unfolding pick
-beyond e m s n d true h k l far = record {
-  further = omega arith;
-  ahead = omega arith;
-  over = by-less d e
-      (λ i. furthest-in e _ d i ∙ let z = furthest-in e m d i in omega arith)
-      (λ i. furthest-out e _ d i);
-}
-beyond e m s n d false h k l far =
-    let near = furthest-in e m n k in
-    record {
-      further = omega arith;
-      ahead = h;
-      over = by-less d e
-          (λ i. furthest-in e _ d i ∙ let z = furthest-in e m d i in omega arith)
-          (λ i. furthest-out e _ d i ∙ let z = furthest-out e m d i in omega arith);
-    }
-
--- where the furthest is the end of both
-still : (e n d : ℕ) (t : Bool) → n < e → e ≤ d → (furthest e n (pick t d n) ≡ n) × (n ≤ pick t d n)
-unfolding pick
-still e n d true h k = (furthest-out e n d k, omega arith)
-still e n d false h k = (furthest-in e n n h ∙ omega arith, omega arith)
-
-other-word : (w u : Joining) → sameWord w u ≡ false → alike (onAt u) (onAt w) ≡ false
-other-word And And e = e
-other-word And Or e = refl
-other-word Or And e = refl
-other-word Or Or e = e
-
-pub outside : (n d : ℕ) (t : Bool) → n < d → n ≤ pick t d n
-unfolding pick
-outside n d true h = omega arith
-outside n d false h = omega arith
 
 -- ---- the first member
 
@@ -273,17 +220,3 @@ module _ (v : ℕ) where
       rw here-is
       (member e p (p + trying v a) w (pick (alike (onAt w) g) d e) a (farCode v (p + trying v a) g d b) (all .0) (merged .0) refl (omega arith)
       (outside e d (alike (onAt w) g) h))
-
--- ---- the word of a run
-
-pub word-again : (w : Joining) → wordOf (onAt w) ≡ w
-word-again And = refl
-word-again Or = refl
-
--- the answer at which the first goes on, by where its last branch leads
-pub on-told : (w : Joining) (g : Bool) (e d : ℕ) → e < d → goesOn g e (pick (alike (onAt w) g) d e) ≡ onAt w
-unfolding pick
-on-told And true e d h = rw (ne-eqb d e (omega arith)) refl
-on-told And false e d h = rw (eq-eqb e e refl) refl
-on-told Or true e d h = rw (eq-eqb e e refl) refl
-on-told Or false e d h = rw (ne-eqb d e (omega arith)) refl

@@ -1,7 +1,7 @@
 -- What the functions do: `firstMember`, `goesOn` and `tree` of sheet's specs/Guess.antt, told from orders.
 use Prim.Native.Nat.{ℕ, suc, _+_, _-_, _≤_, _<_}
 use mathlib.Core.Path.{_≡_}
-use mathlib.Core.Bool.{Bool, true, false}
+use mathlib.Core.Bool.{Bool}
 use mathlib.Core.List.{List, [], _∷_, _++_}
 use lib.Dec.{leb, eqb}
 use lib.ListN.{length}
@@ -9,14 +9,12 @@ use Rattle.base.specs.Choice.{pick}
 use Rattle.word.specs.declared.Relation.{Relation}
 use Rattle.order.specs.declared.Order.{Order}
 use Rattle.order.specs.declared.Order.the-variants.{Word, Number, Store, Neg, Not, Jump, Skip, Branch, Cond, Send, Stop}
-use Rattle.sheet.specs.declared.Joining.{Joining}
-use Rattle.sheet.specs.declared.Joining.the-variants.{And, Or}
 use Rattle.sheet.specs.Sheet.{Expression, Condition, compares, joins}
 use Rattle.sheet.specs.Memory.{conditionFields}
 use Rattle.sheet.specs.Orders.{comparisonCode}
 use Rattle.sheet.specs.Formed.{Expressed}
 use Rattle.sheet.specs.Condition.{Merged, AllExpressed, trying, leaving}
-use Rattle.sheet.specs.Guess.{furthest, other, goesOn}
+use Rattle.sheet.specs.Guess.{furthest, onAt, alike, goesOn}
 use Rattle.untranslate_expression.specs.Internal.{ordersAt, firstOrder, Writes, Safe}
 use Rattle.untranslate_condition.specs.declared.Lead.{Lead}
 use Rattle.untranslate_condition.specs.declared.Lead.the-variants.{To, Nowhere}
@@ -85,16 +83,6 @@ goesOnBy falls e (To r a) = goesOn falls e a
 goesOnBy falls e Nowhere = falls
 
 -- ---- the orders of a condition, and its fields
-
--- the answer at which a word goes on
-abbrev pub onAt : Joining → Bool
-onAt And = true
-onAt Or = false
-
--- whether two answers are the same
-abbrev pub alike : Bool → Bool → Bool
-alike true b = b
-alike false b = other b
 
 -- `tryCode` of sheet, where the answer that falls through goes on behind the orders and the other leads to order d. The answer of a first
 -- member that is the run's leads where that of the run does: to order d, or to the end of the run

@@ -27,7 +27,7 @@ use Rattle.untranslate_expression.specs.declared.Spot.{Spot}
 use Rattle.untranslate_expression.specs.Internal.{ordersAt, firstOrder, behind, loadsLeaf, linkOf, Past, Put, Writes, Wrote, Reading}
 use Rattle.untranslate_expression.proofs.Places.{none-outside, set-sets, writes-before}
 use Rattle.untranslate_expression.proofs.Links.{joined-left, starts, expression-chain, comparison-chain}
-use Rattle.untranslate_condition.proofs.Conditions.{opposite-twice}
+use Rattle.sheet.proofs.Trees.{opposite-twice}
 use Rattle.untranslate_part.specs.declared.Role.{Role}
 use Rattle.untranslate_part.specs.declared.Role.the-variants.{Inside, Last, Goto, Branch as Branches, Cond as Conds, Skip as Skips, Stop as Stops}
 use Rattle.untranslate_part.specs.declared.Begun.{Begun}
