@@ -1,3 +1,4 @@
+pub mod Conditions
 pub mod Lengths
 pub mod States
 pub mod Written
