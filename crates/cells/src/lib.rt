@@ -13,14 +13,14 @@ use cells_byte::{Change, Ending, at_end, change_by};
 use source::{MOST_CELLS, Mode, Statement};
 
 // The offset of the first byte that is not allowed, if there is one.
-#[derive(Drop)]
+#[derive(Clone, Copy)]
 pub enum Found {
     At(usize),
     Missing,
 }
 
 // The next statement is read, up to an offset; there is none; or it is refused with a number.
-#[derive(Drop)]
+#[derive(Clone, Copy)]
 pub enum Reading {
     Statement(usize),
     Ended,
@@ -28,14 +28,14 @@ pub enum Reading {
 }
 
 // The next statement, if there is one. No enum may hold an array yet, so the statement stands beside what was read.
-#[derive(Drop)]
+#[derive(Clone, Copy)]
 pub struct Next {
     pub statement: Statement,
     pub reading: Reading,
 }
 
 // What a byte leaves: the mode and the number of cells held, a whole statement, or a cell too many.
-#[derive(Drop)]
+#[derive(Clone, Copy)]
 enum Step {
     On(Mode, usize),
     Ends,
@@ -43,7 +43,7 @@ enum Step {
 }
 
 // The number of cells gathered, and what they are.
-#[derive(Drop)]
+#[derive(Clone, Copy)]
 struct Gathering {
     length: usize,
     reading: Reading,

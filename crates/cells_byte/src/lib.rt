@@ -12,7 +12,7 @@ use source::{MOST_CELLS, Mode};
 use token_number::letters::{is_capital, is_small};
 
 // One cell more and the mode behind it, none, or one less; the end of the statement; or a cell too many.
-#[derive(Drop)]
+#[derive(Clone, Copy)]
 pub enum Change {
     Keep(u8, Mode),
     Skip(Mode),
@@ -22,7 +22,7 @@ pub enum Change {
 }
 
 // The cells held are a statement, there are none, or they are refused with a number.
-#[derive(Drop)]
+#[derive(Clone, Copy)]
 pub enum Ending {
     Whole,
     Nothing,

@@ -12,7 +12,7 @@ use sheet_field::field_in;
 use source::GREATEST_LABEL;
 
 // The number that a jump carries.
-#[derive(Drop)]
+#[derive(Clone, Copy)]
 pub enum Jump {
     To(u32),
     Missing,

@@ -21,14 +21,14 @@ const STATEMENTS: u32 = MOST_BYTES as u32 + 2;
 const LABELS: u32 = GREATEST_LABEL + 1;
 
 // How many fields there are now, or that the array has no room for them.
-#[derive(Drop)]
+#[derive(Clone, Copy)]
 pub enum Put {
     Fields(usize),
     Unfit,
 }
 
 // That every jump leads to an instruction; the statement of the first that does not; or that the array has too few places.
-#[derive(Drop)]
+#[derive(Clone, Copy)]
 pub enum Led {
     All,
     Unset(u32),
@@ -36,7 +36,7 @@ pub enum Led {
 }
 
 // Where one jump leads: on, or from its statement to no instruction.
-#[derive(Drop)]
+#[derive(Clone, Copy)]
 enum Way {
     On,
     Unset(u32),

@@ -17,7 +17,7 @@ use source::{LABEL_ROWS, MOST_BYTES, NAME_ROWS};
 
 // A sheet: V, the number of its instructions, and how many fields the array holds from its front on; document 01's number and
 // place of the refusal; or that the array has not MOST_FIELDS places.
-#[derive(Drop)]
+#[derive(Clone, Copy)]
 pub enum Answer {
     Sheet(u32, u32, u32),
     Refused(u32, u32),

@@ -22,7 +22,7 @@ use translate_size::size_of;
 
 // How far a program was read: which stage it is in (0 nothing, 1 declarations, 2 instructions), and how many names, letters
 // of names, labels, fields, instructions, orders and open groups there are.
-#[derive(Drop)]
+#[derive(Clone, Copy)]
 pub struct Progress {
     pub stage: u8,
     pub names: u32,
@@ -36,7 +36,7 @@ pub struct Progress {
 
 // What comes of a statement: the program goes on, is refused with a number and a place, or is a whole sheet; or what is given is
 // not fit: the statement is too long, or the arrays hold no program.
-#[derive(Drop)]
+#[derive(Clone, Copy)]
 pub enum Step {
     Further(Progress),
     Refused(u32, u32),

@@ -19,7 +19,7 @@ use source::marks::{
 // The form of a statement. `Labels(c)`: c labels alone; they are the numbers that the tokens 0, 2 .. carry. `Instruction(c, m)`:
 // c labels and an instruction, whose m fields fill the front of the array. `Opening(c, m)`: the same for an IF up to its
 // `%START`. `Nothing`: no such form. `Unfit`: the tokens are more than a statement can have, or than the array has places.
-#[derive(Drop)]
+#[derive(Clone, Copy)]
 pub enum Form {
     Begin,
     Declaration,

@@ -67,7 +67,7 @@ pub fn comparison(
 
 // What a token is to the search for a relation inside a bracket: one, the end of the bracket, or neither, with the number of
 // brackets that are open in it behind the token.
-#[derive(Drop)]
+#[derive(Clone, Copy)]
 enum Sight {
     Relation,
     End,

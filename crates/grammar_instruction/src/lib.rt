@@ -19,7 +19,7 @@ use source::marks::{MARK_ELSE, MARK_IF, MARK_START, MARK_THEN};
 
 // What was read: an instruction, or one up to its `%START`, with the place behind it among the tokens and the place behind its
 // fields. Or that there is nothing of the form.
-#[derive(Drop)]
+#[derive(Clone, Copy)]
 pub enum Instructed {
     Whole(usize, usize),
     Opening(usize, usize),

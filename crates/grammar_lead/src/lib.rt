@@ -12,7 +12,7 @@ use grammar_output::put;
 use sheet::Field;
 
 // Behind what an expression begins with: the next token, the next field, and the start of the operands of the upper levels.
-#[derive(Drop)]
+#[derive(Clone, Copy)]
 pub struct Opened {
     pub at: usize,
     pub upper: usize,

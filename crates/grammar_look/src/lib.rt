@@ -15,7 +15,7 @@ use word::Relation;
 const WORD_SEND: u32 = 1;
 
 // An operand: a field of its own, or an opening bracket.
-#[derive(Drop)]
+#[derive(Clone, Copy)]
 pub enum Operand {
     Plain(Field),
     Open,
@@ -23,7 +23,7 @@ pub enum Operand {
 }
 
 // What an expression begins with.
-#[derive(Drop)]
+#[derive(Clone, Copy)]
 pub enum Lead {
     Plus,
     Minus,
@@ -32,20 +32,20 @@ pub enum Lead {
 }
 
 // An operator between two operands.
-#[derive(Drop)]
+#[derive(Clone, Copy)]
 pub enum Link {
     By(Operator),
     Missing,
 }
 
-#[derive(Drop)]
+#[derive(Clone, Copy)]
 pub enum Related {
     By(Relation),
     Missing,
 }
 
 // The first two tokens of an instruction that can be part of an IF.
-#[derive(Drop)]
+#[derive(Clone, Copy)]
 pub enum Opening {
     Set(u32),
     Send,

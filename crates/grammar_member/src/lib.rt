@@ -24,7 +24,7 @@ const WORD_OR: u32 = 2;
 // How far a condition is read: the next token, the next field, how many brackets are open; then of the innermost condition the
 // word that joins its members, where its fields begin, the word of which it is a run, and where its last member begins. The last
 // two say nothing where a member is to come.
-#[derive(Drop)]
+#[derive(Clone, Copy)]
 pub struct Reading {
     pub at: usize,
     pub out: usize,
@@ -35,7 +35,7 @@ pub struct Reading {
     pub last: usize,
 }
 
-#[derive(Drop)]
+#[derive(Clone, Copy)]
 pub enum Found {
     At(Reading),
     Missing,

@@ -14,7 +14,7 @@ use sheet::{Field, Operator};
 use source::marks::MARK_CLOSE;
 
 // How far an expression is read: the next token, the next field, how many brackets are open, and where operators go.
-#[derive(Drop)]
+#[derive(Clone, Copy)]
 pub struct Reading {
     pub at: usize,
     pub out: usize,
@@ -22,7 +22,7 @@ pub struct Reading {
     pub places: Places,
 }
 
-#[derive(Drop)]
+#[derive(Clone, Copy)]
 pub enum Found {
     At(Reading),
     Missing,

@@ -12,7 +12,7 @@ use sheet_field::{kind_of, value_of};
 use source::MOST_CELLS;
 
 // What was read: the place behind it among the tokens, and the place behind its fields. Or that there is nothing of the form.
-#[derive(Drop)]
+#[derive(Clone, Copy)]
 pub enum Step {
     At(usize, usize),
     Missing,
@@ -50,7 +50,7 @@ pub fn insert(fields: &mut [u64], p: usize, out: usize, f: Field)
 }
 
 // Where the left operand of an operator of the lowest level, the middle one and the highest one would start.
-#[derive(Drop)]
+#[derive(Clone, Copy)]
 pub struct Places {
     pub low: usize,
     pub middle: usize,

@@ -18,7 +18,7 @@ const SPOTS: u32 = 65536;
 const BEHIND: u32 = 32768;
 
 // How many labels are set now; that one of them cannot be; or that the table is not fit for them.
-#[derive(Drop)]
+#[derive(Clone, Copy)]
 pub enum Set {
     Labels(u32),
     Refused,
@@ -26,7 +26,7 @@ pub enum Set {
 }
 
 // The number of the instruction after a label, or that the label is not set.
-#[derive(Drop)]
+#[derive(Clone, Copy)]
 pub enum Found {
     Number(u32),
     Missing,

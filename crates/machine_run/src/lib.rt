@@ -10,7 +10,7 @@ use machine_effect::end_with;
 use machine_step::{fault_ahead, step};
 
 // The steps of a run and what it leaves, beside the words and the output.
-#[derive(Drop)]
+#[derive(Clone, Copy)]
 pub struct Ran {
     pub steps: u32,
     pub registers: Registers,

@@ -15,7 +15,7 @@ use bytes::copy;
 use source::{MOST_BYTES, MOST_CELLS, NAME_ROWS};
 
 // Where one name stands against another.
-#[derive(Drop)]
+#[derive(Clone, Copy)]
 pub enum Side {
     Before,
     Same,
@@ -24,7 +24,7 @@ pub enum Side {
 
 // What a lookup tells: the word of a name, or 0 where it is unknown; its place in the index, or where it would stand; and how many
 // comparisons were made.
-#[derive(Drop)]
+#[derive(Clone, Copy)]
 pub struct Found {
     pub word: u32,
     pub place: usize,
@@ -32,7 +32,7 @@ pub struct Found {
 }
 
 // How many names there are now, and how many letters they have; or that there is no room for one more.
-#[derive(Drop)]
+#[derive(Clone, Copy)]
 pub enum Added {
     Names(u32, u32),
     Unfit,

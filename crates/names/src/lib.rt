@@ -13,7 +13,7 @@ use name_index::{Added, Side, add, compare, find};
 use source::MOST_CELLS;
 
 // How many names there are now, and how many letters they have; that one of them cannot be declared; or that there is no room for it.
-#[derive(Drop)]
+#[derive(Clone, Copy)]
 pub enum Declared {
     Names(u32, u32),
     Refused,

@@ -16,7 +16,7 @@ use order_record::{RECORDS, Record, record_at};
 use text::read::{Numeral, Place, fixed_at, numeral_at};
 
 // What the object is: V, T and the number of orders of a good one; or the first check that it fails, with its place.
-#[derive(Drop)]
+#[derive(Clone, Copy)]
 pub enum Reading {
     Good(u32, u32, u32),
     Header,
@@ -27,14 +27,14 @@ pub enum Reading {
 }
 
 // V, T, N and the place behind the header, or that there is no good header.
-#[derive(Drop)]
+#[derive(Clone, Copy)]
 enum Head {
     Found(u32, u32, u32, usize),
     Missing,
 }
 
 // The first order so far whose operand is no word of the frame or no address.
-#[derive(Drop)]
+#[derive(Clone, Copy)]
 enum Trouble {
     Free,
     Word(u32),
@@ -43,7 +43,7 @@ enum Trouble {
 
 // What is known after some records: the place behind them, how many they are, the first bad operand, and the place of the
 // first STOP, or their number if there is none.
-#[derive(Drop)]
+#[derive(Clone, Copy)]
 struct Scan {
     at: usize,
     count: u32,

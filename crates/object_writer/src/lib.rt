@@ -16,7 +16,7 @@ use order_record::{RECORDS, put_record, record_length};
 use text::write::{decimal_length, put_byte, put_decimal, put_fixed};
 
 // What became of a text: its length, or that the buffer is shorter than it.
-#[derive(Drop)]
+#[derive(Clone, Copy)]
 pub enum Written {
     Whole(usize),
     Short,

@@ -12,7 +12,7 @@ pub const MOST_TEMPORARIES: u32 = 32;
 pub const MOST_ORDERS: u32 = 2048;
 
 // An operation on the accumulator and an operand.
-#[derive(Drop)]
+#[derive(Clone, Copy)]
 pub enum Operation {
     Load,
     Add,
@@ -29,7 +29,7 @@ pub enum Operation {
 }
 
 // An order: what a record of an object holds. A case carries a word of the frame, a number or an address.
-#[derive(Drop)]
+#[derive(Clone, Copy)]
 pub enum Order {
     Word(Operation, u32),
     Number(Operation, u32),

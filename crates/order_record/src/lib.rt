@@ -14,7 +14,7 @@ use text::read::{Numeral, Place, fixed_at, numeral_at};
 use text::write::{decimal_length, put_byte, put_decimal, put_fixed};
 
 // An order and the place behind its record, or that no record stands there.
-#[derive(Drop)]
+#[derive(Clone, Copy)]
 pub enum Record {
     Found(Order, usize),
     Missing,

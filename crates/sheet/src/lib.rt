@@ -5,7 +5,7 @@
 use word::Relation;
 
 // The operators that stand between two operands, in the source + - * / ** << >> & ! !!
-#[derive(Drop)]
+#[derive(Clone, Copy)]
 pub enum Operator {
     Plus,
     Minus,
@@ -20,7 +20,7 @@ pub enum Operator {
 }
 
 // The words that join the members of a run, in the source %AND and %OR.
-#[derive(Drop)]
+#[derive(Clone, Copy)]
 pub enum Joining {
     And,
     Or,
@@ -28,7 +28,7 @@ pub enum Joining {
 
 // A field: a node of an expression, a relation, or a word of an instruction or of a run with the number behind it. ELSE, START,
 // FINISH and the fields that begin an instruction begin a line of the sheet's text.
-#[derive(Drop)]
+#[derive(Clone, Copy)]
 pub enum Field {
     Else,
     Start,

@@ -20,7 +20,7 @@ const GREATEST_NUMBER: u32 = text::GREATEST_NUMBER as u32;
 
 // What must come next, where no expression is left to come: an instruction or the end of a part; START; a condition; or one that is
 // no run of AND, or of OR.
-#[derive(Drop)]
+#[derive(Clone, Copy)]
 pub enum Next {
     Instruction,
     Start,
@@ -33,7 +33,7 @@ pub enum Next {
 // parts, as the digits of a binary number, the innermost last; how many conditions must come beside the one that is next; how many
 // comparisons the IF may still have; what is next; and whether the innermost group has an instruction. The two single bytes stand
 // last, so that there is no gap to be copied with the rest.
-#[derive(Drop)]
+#[derive(Clone, Copy)]
 pub struct State {
     pub values: u32,
     pub groups: u32,
@@ -45,14 +45,14 @@ pub struct State {
 }
 
 // What comes of a field: the state behind it, or that no sheet goes on with it.
-#[derive(Drop)]
+#[derive(Clone, Copy)]
 pub enum Step {
     To(State),
     Missing,
 }
 
 // How many instructions the sheet has that the fields are of, or that they are of none.
-#[derive(Drop)]
+#[derive(Clone, Copy)]
 pub enum Checked {
     Sheet(u32),
     Missing,

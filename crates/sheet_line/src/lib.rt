@@ -12,7 +12,7 @@ use sheet::{Field, Joining};
 use sheet_field::field_word;
 
 // A field as a part of a condition: a comparison, the word of a run, or neither; and IF, which stands before the condition.
-#[derive(Drop)]
+#[derive(Clone, Copy)]
 pub enum Node {
     Comparison,
     Run(Joining),
@@ -21,21 +21,21 @@ pub enum Node {
 }
 
 // Going back from the word of a run: on with so many conditions passed, or whether the run is the rest of one of its own word.
-#[derive(Drop)]
+#[derive(Clone, Copy)]
 pub enum Back {
     On(usize),
     Told(bool),
 }
 
 // Going over a run: on with so many conditions to come beside the next, and so many members; or there are no more members.
-#[derive(Drop)]
+#[derive(Clone, Copy)]
 pub enum Count {
     On(usize, u32),
     Done,
 }
 
 // What is written of a field: the field that a number stands for; or nothing, where it is the word of the rest of a run.
-#[derive(Drop)]
+#[derive(Clone, Copy)]
 pub enum Shown {
     As(u64),
     Rest,

@@ -20,7 +20,7 @@ use sheet_line::{Shown, shown_at};
 use text::write::{decimal_length, put_byte, put_decimal, put_fixed};
 
 // What became of a text: its length, or that the buffer is shorter than it.
-#[derive(Drop)]
+#[derive(Clone, Copy)]
 pub enum Written {
     Whole(usize),
     Short,

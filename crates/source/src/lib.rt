@@ -23,14 +23,14 @@ pub const NAME_ROWS: usize = order::MOST_VARIABLES as usize + MOST_CELLS / 2;
 pub const LABEL_ROWS: usize = MOST_LABELS as usize + MOST_CELLS / 2;
 
 // A statement: its cells and how many there are, without the end mark. A cell is document 01's word: "Each byte kept is a cell".
-#[derive(Drop)]
+#[derive(Clone, Copy)]
 pub struct Statement {
     pub cells: [u8; MOST_CELLS],
     pub length: usize,
 }
 
 // How the next byte is read: as it stands, as behind `%` and letters, between quotes, or in a comment.
-#[derive(Drop)]
+#[derive(Clone, Copy)]
 pub enum Mode {
     Plain,
     Keyword,
@@ -40,7 +40,7 @@ pub enum Mode {
 
 // A token. A name carries its word: 0 where it is unknown, 1 for SEND. Keywords and signs that are neither operators nor
 // relations are marks, numbered in marks.rt.
-#[derive(Drop)]
+#[derive(Clone, Copy)]
 pub enum Token {
     Name(u32),
     Number(u32),

@@ -6,14 +6,14 @@ ghost use Rattle.text.specs.Internal.{behind, number_found, PlaceIs, NumberPlace
 use crate::GREATEST_NUMBER;
 
 // The place behind what was looked for, or that it does not stand there.
-#[derive(Drop)]
+#[derive(Clone, Copy)]
 pub enum Place {
     Behind(usize),
     Missing,
 }
 
 // A number and the place behind its field, or that no number stands there.
-#[derive(Drop)]
+#[derive(Clone, Copy)]
 pub enum Numeral {
     Number(u32, usize),
     Missing,

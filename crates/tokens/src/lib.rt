@@ -15,7 +15,7 @@ use source::{MOST_CELLS, Statement};
 use tokens_fixed::One;
 
 // The number of tokens; the number of the refusal: 5 or 6; or that the statement or the arrays are not fit for it.
-#[derive(Drop)]
+#[derive(Clone, Copy)]
 pub enum Lexed {
     Tokens(usize),
     Refused(u32),
@@ -23,7 +23,7 @@ pub enum Lexed {
 }
 
 // What an array holds of a token: its kind, what it carries, and the place of the cell behind it; or a refusal.
-#[derive(Drop)]
+#[derive(Clone, Copy)]
 enum Stored {
     At(u8, u32, usize),
     Wrong(u32),

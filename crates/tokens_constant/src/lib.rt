@@ -10,7 +10,7 @@ use source::{GREATEST_CONSTANT, Token};
 use tokens_fixed::One;
 
 // A character of a quoted constant, or the quote that closes it, and the place behind; or the end of the cells.
-#[derive(Drop)]
+#[derive(Clone, Copy)]
 enum Character {
     Plain(u8, usize),
     Close(usize),

@@ -16,7 +16,7 @@ use text::read::{Place, fixed_at};
 use word::Relation;
 
 // A token and the place of the cell behind it; the place behind a name; or the number of the refusal.
-#[derive(Drop)]
+#[derive(Clone, Copy)]
 pub enum One {
     Token(Token, usize),
     Name(usize),
@@ -24,7 +24,7 @@ pub enum One {
 }
 
 // The token of two characters, if they are one.
-#[derive(Drop)]
+#[derive(Clone, Copy)]
 enum Pair {
     Token(Token),
     Missing,

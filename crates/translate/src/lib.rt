@@ -15,14 +15,14 @@ use order_number::{order_in, order_word};
 use translate_part::put_part;
 
 // T and N of a sheet's translation, or that there is no room for it.
-#[derive(Drop)]
+#[derive(Clone, Copy)]
 pub enum Translated {
     Whole(u32, u32),
     Over,
 }
 
 // The number of the instruction that a jump leads to.
-#[derive(Drop)]
+#[derive(Clone, Copy)]
 enum Target {
     To(u32),
     Missing,

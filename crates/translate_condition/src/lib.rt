@@ -15,7 +15,7 @@ use translate_size::trying_size;
 use word::Relation;
 
 // How a condition begins: as a comparison, or as a run.
-#[derive(Drop)]
+#[derive(Clone, Copy)]
 enum Head {
     Compare(Relation),
     Run(Joining),
@@ -23,7 +23,7 @@ enum Head {
 }
 
 // The orders that a yes and a no lead to. One of them is the order behind; `falls` says whether it is that of a yes.
-#[derive(Drop)]
+#[derive(Clone, Copy)]
 struct Exits {
     falls: bool,
     yes: u32,

@@ -14,14 +14,14 @@ use sheet::Field;
 use sheet_field::{field_in, operation_of};
 
 // A plain operand.
-#[derive(Drop)]
+#[derive(Clone, Copy)]
 pub enum Operand {
     Word(u32),
     Constant(u32),
 }
 
 // A node of an expression: a plain operand, the order on the operand behind it, or the operation on the two behind it.
-#[derive(Drop)]
+#[derive(Clone, Copy)]
 pub enum Node {
     Plain(Operand),
     Unary(Order),
@@ -30,14 +30,14 @@ pub enum Node {
 }
 
 // A right operand.
-#[derive(Drop)]
+#[derive(Clone, Copy)]
 pub enum Right {
     Plain(Operand),
     WorkedOut,
 }
 
 // What an operator asks: an order, behind which the fields go on at a place; or a right operand to be worked out.
-#[derive(Drop)]
+#[derive(Clone, Copy)]
 pub enum Step {
     Put(Order, usize),
     Right(Operation),
@@ -45,7 +45,7 @@ pub enum Step {
 }
 
 // A place among the fields, and one among the orders.
-#[derive(Drop)]
+#[derive(Clone, Copy)]
 pub struct Spot {
     pub at: usize,
     pub i: usize,

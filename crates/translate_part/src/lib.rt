@@ -16,7 +16,7 @@ use translate_expression::{Spot, put_expression, put_order};
 use translate_size::condition_size;
 
 // How an instruction begins: as one with an expression, whose last order is told; as a jump to an instruction; as an IF.
-#[derive(Drop)]
+#[derive(Clone, Copy)]
 pub enum Opening {
     Last(Order),
     Goto(u32),
@@ -25,14 +25,14 @@ pub enum Opening {
 }
 
 // What became of an instruction: the places behind it, or that there is none.
-#[derive(Drop)]
+#[derive(Clone, Copy)]
 pub enum Turn {
     More(Spot),
     Done,
 }
 
 // The places behind an IF, and the order that a no leads to.
-#[derive(Drop)]
+#[derive(Clone, Copy)]
 struct Closed {
     at: usize,
     i: usize,

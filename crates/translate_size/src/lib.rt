@@ -14,7 +14,7 @@ use sheet_field::{field_at, kind_of};
 use translate_expression::{Right, Step, leaf_at, right_at, right_step, step_at};
 
 // The place behind what was counted, its orders, and the temporaries that it uses.
-#[derive(Drop)]
+#[derive(Clone, Copy)]
 struct Counted {
     at: usize,
     orders: u32,
@@ -22,7 +22,7 @@ struct Counted {
 }
 
 // The same of what an IF asks, with its comparisons, and how many conditions are yet to come.
-#[derive(Drop)]
+#[derive(Clone, Copy)]
 pub struct Asked {
     pub at: usize,
     pub left: usize,
@@ -32,7 +32,7 @@ pub struct Asked {
 }
 
 // The orders of a statement, the temporaries that it uses, the instructions that it has in a sheet, and its comparisons.
-#[derive(Drop)]
+#[derive(Clone, Copy)]
 pub struct Size {
     pub orders: u32,
     pub temporaries: u32,

@@ -12,7 +12,7 @@ use translate::{Translated, translate};
 use untranslate_part::guess;
 
 // A sheet: how many instructions it has, and how many fields, which fill the front of the array. Or that there is none.
-#[derive(Drop)]
+#[derive(Clone, Copy)]
 pub enum Untranslated {
     Sheet(u32, usize),
     Missing,

@@ -17,14 +17,14 @@ use untranslate_expression::{put_field, read_expression};
 use word::Relation;
 
 // What a branch asks for, and where it leads; or that an order is no branch.
-#[derive(Drop)]
+#[derive(Clone, Copy)]
 pub enum Lead {
     To(Relation, u32),
     Nowhere,
 }
 
 // How the first member of a run goes on behind an order: it does, and a branch led to this order at the furthest; or it has ended.
-#[derive(Drop)]
+#[derive(Clone, Copy)]
 pub enum Step {
     On(u32),
     Ended,

@@ -15,7 +15,7 @@ use sheet::{Field, Operator};
 use sheet_field::field_word;
 
 // What an operation does with its operand.
-#[derive(Drop)]
+#[derive(Clone, Copy)]
 pub enum Use {
     Loads,
     Joins(Operator),
@@ -24,7 +24,7 @@ pub enum Use {
 
 // A link: an operator without a right operand; one with a plain right operand; one whose right operand is worked out now; or no link. CMP
 // is an operator with the field ELSE, which the caller replaces.
-#[derive(Drop)]
+#[derive(Clone, Copy)]
 pub enum Link {
     Unary(Field),
     Plain(Field, Field),
@@ -33,7 +33,7 @@ pub enum Link {
 }
 
 // A place among the orders, and one among the fields.
-#[derive(Drop)]
+#[derive(Clone, Copy)]
 pub struct Spot {
     pub at: usize,
     pub n: usize,

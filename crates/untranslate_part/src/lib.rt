@@ -23,7 +23,7 @@ const MOST_ORDERS: usize = order::MOST_ORDERS as usize;
 
 // What an order is to the instructions: inside one; the last of one with an expression, whose first field is told; a jump, a branch,
 // COND, a SKIP, STOP.
-#[derive(Drop)]
+#[derive(Clone, Copy)]
 pub enum Role {
     Inside,
     Last(Field),
@@ -36,7 +36,7 @@ pub enum Role {
 
 // How an instruction begins: it is whole, and these are the places behind it; or it is an IF, whose branch leads to an order, and these
 // are the places behind the branch.
-#[derive(Drop)]
+#[derive(Clone, Copy)]
 pub enum Begun {
     Whole(Spot),
     Asked(Spot, u32),
@@ -45,7 +45,7 @@ pub enum Begun {
 
 // The parts of an IF: one, which ends before an order; or two, where the first ends before an order, and the second begins with
 // an order and ends before another.
-#[derive(Drop)]
+#[derive(Clone, Copy)]
 pub enum Parts {
     One(usize),
     Two(usize, usize, usize),
@@ -53,7 +53,7 @@ pub enum Parts {
 }
 
 // What became of an instruction: the places behind it, or that there is none.
-#[derive(Drop)]
+#[derive(Clone, Copy)]
 pub enum Turn {
     More(Spot),
     Done,

@@ -17,7 +17,7 @@ use Rattle.word.proofs.Wrapping.{word_negation}
 
 -- an i32 that holds a word's reading is read as it
 pub held : (a : ℕ) (r : ℤ) → a < 4294967296 → r ≡ signed a → to_z w32 (of_z w32 r) ≡ signed a
-held a r h e = rw e (to_z-of_z (record { sfits = signed_small a h }))
+held a r h e = rw e (to_z-of_z {w = w32} {z = signed a} (record { sfits = signed_small a h }))
 
 -- -1 less a number
 pub less_one_pos : (n : ℕ) → negsuc 0 -ℤ pos n ≡ negsuc n

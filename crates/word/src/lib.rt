@@ -2,7 +2,7 @@
 #![tactic(auto)]
 
 // How two words may relate, or one word to zero: = # < <= > >=.
-#[derive(Drop)]
+#[derive(Clone, Copy)]
 pub enum Relation {
     Equal,
     Unequal,

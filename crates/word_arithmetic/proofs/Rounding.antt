@@ -149,7 +149,7 @@ module _ (x y : ℤ) (fits_x : SFits w32 x) (fits_y : SFits w32 y) (not_these : 
 
   rest_stored : stored (rem_z (stored x) (stored y)) ≡ rem_z x y
   rest_stored =
-      rw (to_z-of_z fits_x, to_z-of_z fits_y) (to_z-of_z (record { sfits = omega (arith, mag_rem x y, fits_x.sfits) }))
+      rw (to_z-of_z fits_x, to_z-of_z fits_y) (to_z-of_z {w = w32} (record { sfits = omega (arith, mag_rem x y, fits_x.sfits) }))
 
   divisor_size : 0 < nat_abs y
   divisor_size = positive_size y not_these.0
@@ -159,13 +159,13 @@ module _ (x y : ℤ) (fits_x : SFits w32 x) (fits_y : SFits w32 y) (not_these : 
     rest : stored r ≡ neg_ℤ (pos (nat_abs x % nat_abs y))
     rest =
         let e : r ≡ neg_ℤ (pos (nat_abs (rem_z x y))) = is_r ∙ ap (λ z. neg_ℤ (pos (nat_abs z))) rest_stored in
-        rw e (to_z-of_z (record { sfits = minus_small (rem_z x y) (omega (arith, mag_rem x y, fits_x.sfits)) }))
+        rw e (to_z-of_z {w = w32} (record { sfits = minus_small (rem_z x y) (omega (arith, mag_rem x y, fits_x.sfits)) }))
         ∙ ap (λ k. neg_ℤ (pos k)) (rest_size x y)
 
     divisor : stored s ≡ neg_ℤ (pos (nat_abs y))
     divisor =
         let e : s ≡ neg_ℤ (pos (nat_abs y)) = is-s ∙ ap (λ z. neg_ℤ (pos (nat_abs z))) (to_z-of_z fits_y) in
-        rw e (to_z-of_z (record { sfits = minus_small y fits_y.sfits }))
+        rw e (to_z-of_z {w = w32} (record { sfits = minus_small y fits_y.sfits }))
 
     left_over : stored s -ℤ stored r ≡ neg_ℤ (pos (nat_abs y - nat_abs x % nat_abs y))
     left_over =
@@ -196,7 +196,7 @@ module _ (x y : ℤ) (fits_x : SFits w32 x) (fits_y : SFits w32 y) (not_these : 
           ⊎_elim
           (λ w. rw (w.1, toward) (+ℤ_idr (quot_z x y) ∙ sym (rounded_kept x y (ltb-true _ _ (sym test ∙ w.0)))))
           (λ w.
-          rw (w.1, toward, is_outward, to_z-of_z (record { sfits = outward_small x y }))
+          rw (w.1, toward, is_outward, to_z-of_z {w = w32} (record { sfits = outward_small x y }))
           (sym (rounded_outward x y divisor_size (ltb-false _ _ (sym test ∙ w.0)))))
 
       pub stepped_fits : Chosen → SFits w32 (stored (quot_z (stored x) (stored y)) +ℤ to_z w32 step)
@@ -211,4 +211,4 @@ pub rounded_stored :
     q ≡ rounded (signed a) (signed b) → stored q ≡ rounded (signed a) (signed b)
 rounded_stored a b q small_a small_b not_zero not_minus_one e =
     rw e
-    (to_z-of_z (record { sfits = quotient_in_range a b small_a small_b (signed_not_zero b small_b not_zero) (λ l m. not_minus_one m) }))
+    (to_z-of_z {w = w32} (record { sfits = quotient_in_range a b small_a small_b (signed_not_zero b small_b not_zero) (λ l m. not_minus_one m) }))

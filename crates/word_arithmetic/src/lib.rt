@@ -10,7 +10,7 @@ ghost use Rattle.word_arithmetic.specs.Internal.{outward as spec-outward, PowerO
 use word::Relation;
 
 // What an operation that may fault answers. specs/Answers.antt gives each case its number.
-#[derive(Drop)]
+#[derive(Clone, Copy)]
 pub enum Answer {
     Value(u32),
     ZeroDivisor,
@@ -173,7 +173,7 @@ pub fn div(a: u32, b: u32) -> Answer
 }
 
 // A power, and the number of products that it took.
-#[derive(Drop)]
+#[derive(Clone, Copy)]
 struct Power {
     word: u32,
     products: u32,

@@ -1,0 +1,6 @@
+use Rattle.word.specs.Word.{sum, wrap}
+use Rattle.word_arithmetic.proofs.add.Goals as goal
+
+pub returns : goal.returns
+unfolding sum wrap
+returns c = c.wrapping_add_u32.ensures
