@@ -11,7 +11,6 @@ ghost use Rattle.name_index.specs.Answers.{Searches, side_at, word_at, FewCompar
 ghost use Rattle.name_index.specs.Internal.{Inserts};
 
 use base::part;
-use bytes::copy;
 use source::{MOST_BYTES, MOST_CELLS, NAME_ROWS};
 
 // Where one name stands against another.
@@ -193,7 +192,7 @@ pub fn add(
     if MOST_BYTES - at < name.len() {
         return Added::Unfit;
     }
-    copy(name, &mut letters[at..]);
+    letters[at..at + name.len()].copy_from_slice(name);
     let many = (name.len() % MOST_CELLS) as u32;
     let row = (filled * MOST_CELLS as u32 + many) * NAME_ROWS as u32 + v;
     insert(index, v as usize, place, row);

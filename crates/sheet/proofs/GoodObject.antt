@@ -162,7 +162,7 @@ ended_good v t os few_variables few_temporaries few_orders held =
       no_stop_earlier =
           λ k h. let before : k < length os = omega arith in
           not_stop (get_or l k Stop)
-          (ap is_stop (get_or-append os (Stop ∷ []) Stop k before) ∙ (each_at (Held v t (length l)) os Stop held k before).goes_on);
+          (ap is_stop (get_or-append os (Stop ∷ []) Stop k before) ∙ (each_at (Held v t (length l)) os Stop held k before).goes_on_law);
     }
   where
     l : List Order

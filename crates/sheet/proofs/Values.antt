@@ -146,10 +146,10 @@ some_worth ws (word w) = omega arith
 some_worth ws (constant n) = omega arith
 some_worth ws (negated e) = some_then (worth ws e) _ (some_worth ws e)
 some_worth ws (inverted e) = some_then (worth ws e) _ (some_worth ws e)
-some_worth ws (binary o l r) = some_both _ ws (operand r) (worth ws l) (worth ws r) (some_worth ws l)
+some_worth ws (binary o l r) = some_both (λ x y. by_order (apply o x y)) ws (operand r) (worth ws l) (worth ws r) (some_worth ws l)
 
 some_holds : (ws : List ℕ) (r : Relation) (a b : Expression) → Some (holds ws r a b)
-some_holds ws r a b = some_both _ ws (operand b) (worth ws a) (worth ws b) (some_worth ws a)
+some_holds ws r a b = some_both (λ x y. gives (related r x y) 2) ws (operand b) (worth ws a) (worth ws b) (some_worth ws a)
 
 some_simple : (room : ℕ) (m : Store) (u : Simple) → Some (do_simple room m u)
 some_simple room m (set w e) = some_then (worth m.words e) _ (some_worth m.words e)

@@ -18,7 +18,7 @@ use Rattle.source.specs.Grammar.{Form, beginning, declaration, ending, labels, i
 use Rattle.source.specs.Syntax.{named, decimal, quoted, bracketed, operand, inverse, higher, operation, minus}
 use Rattle.source.specs.Syntax.{Expressed, expression, plus, Simply, assignment, sending, jump}
 use Rattle.source.specs.Syntax.{Asked, comparison, enclosed, two, more, single, run, Instructed, simply, conditional, alternative, opening}
-use Rattle.source.specs.Syntax.{begin, integers, instructed, alone, finishes, goes_on_law, end}
+use Rattle.source.specs.Syntax.{begin, integers, instructed, alone, finishes, goes_on, end}
 use Rattle.source.proofs.Each.{Each}
 use Rattle.source.proofs.FineTokens.{Fine}
 use Rattle.source.proofs.ReadSyntax.{Finds, finds, no_form_law, form_finds}
@@ -150,7 +150,7 @@ module _ (v : ℕ) where
   found_bounded (finds (instructed {ts = ts} {us = us} l i)) h = instruction_bounded i (fine_rest ts us h)
   found_bounded (finds (alone l)) h = tt
   found_bounded (finds finishes) h = tt
-  found_bounded (finds goes_on_law) h = tt
+  found_bounded (finds goes_on) h = tt
   found_bounded (finds end) h = tt
   found_bounded no_form_law h = tt
 

@@ -90,6 +90,8 @@ module _ (k : ℕ) (found : OperandsFound k) where
   plus_found (chained bare {ts = ts} {us = us} unsigned x m o) rest f h =
       let sizes : length (ts ++ us) ≡ length ts + length us = length-append ts us in
       rw (append_assoc ts us rest) (chain_found bare x m rest f (omega (arith, h, sizes)))
+  plus_found {n = n} (chained minus {ts = ts} {us = us} {e = e} {ls = ls} x24 x m o) rest f h = elim x24 [ ]
+  plus_found {n = n} (chained invert {ts = ts} {us = us} {e = e} {ls = ls} x25 x m o) rest f h = elim x25 [ ]
 
   expressed_found : {ts : List Token} {e : Expression} → Expressed ts e → (rest : List Token) → Ends rest → length ts ≤ suc k
       → expression_in (suc k) (ts ++ rest) ≡ read e rest

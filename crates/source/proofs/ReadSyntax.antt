@@ -28,7 +28,7 @@ use Rattle.source.specs.Grammar.{Form, beginning, declaration, ending, finish, f
 use Rattle.source.specs.Grammar.{is_name, is_name_list, only, finishing, form}
 use Rattle.source.specs.Syntax.{later, Operand, named as name, decimal, quoted, bracketed, Expressed, expression as level_one, plus}
 use Rattle.source.specs.Syntax.{Simply, assignment, sending, jump as jumping, Member, comparison, enclosed, Joined, two, more, Asked, single, run, Instructed, simply, conditional as on_condition, alternative, opening}
-use Rattle.source.specs.Syntax.{LabelList, none as no_label, label, NameList, last, comma, Stated, begin, integers, instructed, alone as labels_alone, finishes, goes_on_law, end}
+use Rattle.source.specs.Syntax.{LabelList, none as no_label, label, NameList, last, comma, Stated, begin, integers, instructed, alone as labels_alone, finishes, goes_on, end}
 use Rattle.source.proofs.SyntaxChains.{Links, none as no_links, linked, lead_tokens, bare_level, sign_level}
 
 -- ---- marks
@@ -415,7 +415,7 @@ unfolding finishing
 finish_finds ts =
     by_mark (λ us f. Finds (Mark mark_finish ∷ us) f) mark_else ts _ (only finish ts)
     (λ us. by_mark (λ vs f. Finds (Mark mark_finish ∷ Mark mark_else ∷ vs) f) mark_start us (only finish_else) no_form
-    (only_finds (Mark mark_finish ∷ Mark mark_else ∷ Mark mark_start ∷ []) finish_else goes_on_law)
+    (only_finds (Mark mark_finish ∷ Mark mark_else ∷ Mark mark_start ∷ []) finish_else goes_on)
     no_form_law)
     (only_finds (Mark mark_finish ∷ []) finish finishes ts)
 

@@ -4,7 +4,7 @@ use mathlib.Core.Path.{◌≡◌, refl, sym, subst, ◌∙◌}
 use mathlib.Core.List.{List}
 use Rattle.source.specs.declared.Token.{Token}
 use Rattle.source.specs.Grammar.{Form, beginning, declaration, ending, labels, instruction, finish, finish_else, no_form, form}
-use Rattle.source.specs.Syntax.{Stated, begin, integers, instructed, alone, finishes, goes_on_law, end}
+use Rattle.source.specs.Syntax.{Stated, begin, integers, instructed, alone, finishes, goes_on, end}
 use Rattle.source.proofs.SyntaxRead.{form_read}
 use Rattle.source.proofs.ReadSyntax.{Finds, finds, no_form_law, form_finds}
 
@@ -24,7 +24,7 @@ is_form (integers ns) = tt
 is_form (instructed l i) = tt
 is_form (alone l) = tt
 is_form finishes = tt
-is_form goes_on_law = tt
+is_form goes_on = tt
 is_form end = tt
 
 -- ---- the statements

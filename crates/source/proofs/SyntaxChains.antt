@@ -81,10 +81,14 @@ chain_operation : {p : Place} {ts us : List Token} {e r : Expression} (o : Opera
 chain_operation o (chained l {ts = ts} {us = us} {e = e} {ls = xs} b x k f) (chained bare {ts = vs} {us = ws} {e = y} {ls = ys} unsigned z m g) =
     rw (append_assoc (lead_tokens l) (ts ++ us) (Binary o ∷ (vs ++ ws)), append_assoc ts us (Binary o ∷ (vs ++ ws)), ← sign_root o e y xs ys b f g)
     (chained l b x (links_append o k z m) (from_append o y xs ys f g))
+chain_operation {p = p} o (chained l {ts = ts} {us = us} {e = e} {ls = xs} b x k f) (chained minus {ts = vs} {us = ws} {e = y} {ls = ys} x20 z m g) = elim x20 [ ]
+chain_operation {p = p} o (chained l {ts = ts} {us = us} {e = e} {ls = xs} b x k f) (chained invert {ts = vs} {us = ws} {e = y} {ls = ys} x21 z m g) = elim x21 [ ]
 
 chain_minus : {ts : List Token} {e : Expression} → Chained later 2 ts e → Chained first 1 (Binary Minus ∷ ts) (negated e)
 chain_minus (chained bare {e = e} {ls = ls} unsigned x k f) =
     rw (← minus_takes e ls f) (chained minus (by_minus {n = 1} (omega arith)) x k (from_lower 1 ls f))
+chain_minus (chained minus {ts = ts} {us = us} {e = e} {ls = ls} x12 x k f) = elim x12 [ ]
+chain_minus (chained invert {ts = ts} {us = us} {e = e} {ls = ls} x13 x k f) = elim x13 [ ]
 
 chain_operand : {p : Place} {l : Lead} {ts : List Token} {e f : Expression} → Begins p 4 l → Operand ts e → tree l e [] ≡ f
     → Chained p 4 (lead_tokens l ++ ts) f

@@ -12,7 +12,7 @@ use Rattle.source.specs.Grammar.{Read, read, next, past, opens, behind_first, ex
 use Rattle.source.specs.Grammar.{Instruction, if_then, if_else, chosen, consequent, conditional, instruction_at}
 use Rattle.source.specs.Grammar.{Form, labelled, further, labels_at, entire, labelled_form, is_name_list, finishing, form}
 use Rattle.source.specs.Syntax.{Simply, assignment, sending, jump as jumping, Asked, Instructed, simply, conditional as on_condition, alternative, opening}
-use Rattle.source.specs.Syntax.{LabelList, none, label, NameList, last, comma, Stated, begin, integers, instructed, alone, finishes, goes_on_law, end}
+use Rattle.source.specs.Syntax.{LabelList, none, label, NameList, last, comma, Stated, begin, integers, instructed, alone, finishes, goes_on, end}
 use Rattle.source.specs.Printed.{Ends}
 use Rattle.source.proofs.ExpressionsRead.{expression_found}
 use Rattle.source.proofs.ConditionsRead.{condition_found}
@@ -144,5 +144,5 @@ form_read (instructed {ls = ls} l i) =
 form_read (alone none) = ap labelled_form (labels_alone none)
 form_read (alone (label l ls)) = ap labelled_form (labels_alone (label l ls))
 form_read finishes = refl
-form_read goes_on_law = refl
+form_read goes_on = refl
 form_read end = refl
