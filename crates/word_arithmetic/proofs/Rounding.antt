@@ -185,8 +185,8 @@ module _ (x y : ℤ) (fits_x : SFits w32 x) (fits_y : SFits w32 y) (not_these : 
     module _ (o : ℤ) (step : ℕ) (is_o : o ≡ outward (stored x) (stored y)) where
       abbrev pub Chosen : Type 0
       Chosen =
-          ((lt_z (stored (stored s -ℤ stored r)) (stored r) ≡ true) × (step ≡ 0))
-          ⊎ ((lt_z (stored (stored s -ℤ stored r)) (stored r) ≡ false) × (step ≡ of_z w32 o))
+          ((lt_z (stored (stored s -ℤ stored r)) (stored r) ≡ true) × (to_z w32 step ≡ pos 0))
+          ⊎ ((lt_z (stored (stored s -ℤ stored r)) (stored r) ≡ false) × (to_z w32 step ≡ stored o))
 
       is_outward : o ≡ outward x y
       is_outward = is_o ∙ ap₂ outward (to_z-of_z fits_x) (to_z-of_z fits_y)

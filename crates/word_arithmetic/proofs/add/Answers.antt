@@ -3,4 +3,4 @@ use Rattle.word_arithmetic.proofs.add.Goals as goal
 
 pub returns : goal.returns
 unfolding sum wrap
-returns c = c.wrapping_add_u32.ensures
+returns c = c.wrapping_add_u32.ensures.value
