@@ -17,7 +17,7 @@ use Rattle.order.proofs.Numbers.{order_again}
 use Rattle.sheet.specs.Sheet.{Expression, word, constant, negated, inverted, binary, Simple, set, send, goto}
 use Rattle.sheet.specs.Sheet.{Condition, compares, joins, Part, end, plain, when, either, count}
 use Rattle.sheet.specs.Formed.{IsVariable, Expressed, SimpleFormed}
-use Rattle.sheet.specs.Condition.{comparisons, is_run, Merged, AllExpressed, most_comparisons, ConditionFormed}
+use Rattle.sheet.specs.Condition.{comparisons, is_run, Merged, AllExpressed, ConditionFormed}
 use Rattle.sheet.specs.Within.{PartFormed}
 use Rattle.sheet.specs.ReadBack.{is_variable, also, is_expressed, is_simple_formed, all_expressed, is_merged, is_condition_formed}
 use Rattle.sheet.specs.ReadBack.{is_part_formed, same_orders}

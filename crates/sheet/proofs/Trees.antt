@@ -15,7 +15,7 @@ use Rattle.sheet.specs.Sheet.{Expression, Condition, compares, joins}
 use Rattle.sheet.specs.Orders.{opposite}
 use Rattle.sheet.specs.Condition.{comparisons, same_word, is_run, Merged, trying, leaving}
 use Rattle.sheet.specs.Guess.{Test, test, last_to, last_on, Cut, cut, longer, furthest, first_member, on_at, alike}
-use Rattle.sheet.specs.Guess.{other, word_of, goes_on, on_cut, tree}
+use Rattle.sheet.specs.Guess.{word_of, goes_on, on_cut, tree}
 use Rattle.sheet.proofs.Sizes.{trying_some, comparisons_some}
 
 -- ---- the tests of a condition

@@ -1,5 +1,5 @@
 -- The translation of a sheet into orders, document 01 ("Translation") and 02, L1. Comments in quotes are their words.
-use Rattle.std.specs.Prelude.{ℕ, suc, ◌+◌, ◌-◌, max, List, [], ◌∷◌, ◌++◌, get_or}
+use Rattle.std.specs.Prelude.{ℕ, ◌+◌, ◌-◌, max, List, [], ◌∷◌, ◌++◌, get_or}
 use Rattle.order.specs.declared.Order.{Order}
 use Rattle.order.specs.declared.Order.TheVariants.{Skip, Stop}
 use Rattle.order.specs.Object.{text}

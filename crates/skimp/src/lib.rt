@@ -1,4 +1,4 @@
-// The functions that the box's supervisor calls. include/skimp.h says in plain words what they do, specs/Promises.antt what is
+// The functions that the box's supervisor calls, as a library: crate skimp_c exports them to C. include/skimp.h says in plain words what they do, specs/Promises.antt what is
 // proved of them.
 #![tactic(auto)]
 
@@ -13,22 +13,19 @@ pub const MOST_OBJECT_BYTES: usize = 37 + 18 * order::MOST_ORDERS as usize;
 
 pub const MOST_SHEET_BYTES: usize = 32 * order::MOST_ORDERS as usize;
 
-#[unsafe(no_mangle)]
-pub extern "C" fn skimp_compile(source: &[u8], object: &mut [u8]) -> u64
+pub fn skimp_compile(source: &[u8], object: &mut [u8]) -> u64
     ensures { wrote result object.new ≡ compile_call source.now object.old }
 {
     call_compile::compile(source, object)
 }
 
-#[unsafe(no_mangle)]
-pub extern "C" fn skimp_read_back(object: &[u8], sheet: &mut [u8]) -> u64
+pub fn skimp_read_back(object: &[u8], sheet: &mut [u8]) -> u64
     ensures { wrote result sheet.new ≡ read_back_call object.now sheet.old }
 {
     call_read_back::read_back(object, sheet)
 }
 
-#[unsafe(no_mangle)]
-pub extern "C" fn skimp_run(object: &[u8], state: &mut [u8], output: &mut [u8], budget: u32) -> u64
+pub fn skimp_run(object: &[u8], state: &mut [u8], output: &mut [u8], budget: u32) -> u64
     ensures { call result state.new output.new
         ≡ run_call object.now state.old output.old budget }
 {

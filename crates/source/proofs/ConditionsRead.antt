@@ -15,10 +15,10 @@ use Rattle.sheet.specs.Sheet.{Expression, Condition, compares}
 use Rattle.sheet.specs.Merge.{join_of}
 use Rattle.source.specs.declared.Token.{Token}
 use Rattle.source.specs.declared.Token.TheVariants.{Name, Number, Quoted, Binary, Compare, Mark}
-use Rattle.source.specs.Tokens.{mark_and, mark_or, mark_open, mark_close}
-use Rattle.source.specs.Grammar.{Read, read, next, past, opens, behind_first, expression, relation_at, comparison_at}
+use Rattle.source.specs.Tokens.{mark_and, mark_or, mark_close}
+use Rattle.source.specs.Grammar.{Read, read, next, opens, behind_first, relation_at, comparison_at}
 use Rattle.source.specs.Grammar.{holds_relation, opens_condition, member_by, mark_of, run_by, joined_by, condition_in, condition_at}
-use Rattle.source.specs.Syntax.{Operand, named, decimal, quoted, bracketed, Level, operand, inverse, higher, operation, minus}
+use Rattle.source.specs.Syntax.{named, decimal, quoted, bracketed, operand, inverse, higher, operation, minus}
 use Rattle.source.specs.Syntax.{Expressed, expression as level_one, plus}
 use Rattle.source.specs.Syntax.{Member, comparison, enclosed, Joined, two, more, Asked, single, run}
 use Rattle.source.specs.Printed.{Ends}

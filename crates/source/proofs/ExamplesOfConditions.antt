@@ -1,5 +1,5 @@
 -- Sources with joined conditions, document 02, L5, and what comes of them, by computation. Comments in quotes are its words.
-use Prim.Native.Nat.{ℕ, zero, suc, ◌+◌}
+use Prim.Native.Nat.{ℕ}
 use Prim.Native.String.{String}
 use mathlib.Core.Path.{◌≡◌, refl}
 use mathlib.Core.List.{List, [], ◌∷◌, ◌++◌, map}
@@ -10,7 +10,7 @@ use Rattle.word.specs.declared.Relation.TheVariants.{Equal}
 use Rattle.text.specs.Pieces.{fixed}
 use Rattle.sheet.specs.declared.Operator.TheVariants.{Plus}
 use Rattle.sheet.specs.declared.Joining.TheVariants.{And, Or}
-use Rattle.sheet.specs.Sheet.{Expression, word, constant, binary, send, Condition, compares, joins, end, plain, when, count, sheet, retarget_part}
+use Rattle.sheet.specs.Sheet.{word, constant, binary, send, Condition, compares, joins, end, plain, when, count, sheet, retarget_part}
 use Rattle.sheet.specs.Orders.{code, temporaries}
 use Rattle.sheet.specs.Condition.{comparisons, trying, asking, condition_temporaries}
 use Rattle.sheet.specs.Merge.{join_of}

@@ -4,7 +4,6 @@ use Prim.Native.Nat.{ℕ, suc, ◌+◌, ◌≤◌}
 use mathlib.Core.Path.{◌≡◌, refl, ap, ap₂, ◌∙◌}
 use mathlib.Core.List.{[], ◌∷◌, ◌++◌, append_assoc, append-nil}
 use native.Mathlib.Omega.{arith}
-use lib.ListN.{length, length-append}
 use Rattle.sheet.specs.Sheet.{Simple, set, send, goto, Condition, Part, end, plain, when, either, count, retarget, retarget_part}
 use Rattle.sheet.specs.Orders.{simple_size, simple_temporaries}
 use Rattle.sheet.specs.Translation.{size, temporaries_of}

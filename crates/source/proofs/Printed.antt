@@ -5,7 +5,6 @@ use mathlib.Core.List.{List, [], ◌∷◌, ◌++◌, append_assoc}
 use mathlib.Core.Bool.{false}
 use Rattle.base.specs.Choice.{pick}
 use Rattle.sheet.specs.declared.Joining.{Joining}
-use Rattle.sheet.specs.declared.Joining.TheVariants.{And, Or}
 use Rattle.sheet.specs.Sheet.{Simple, set, send, goto, Condition, compares, joins}
 use Rattle.sheet.specs.Condition.{is_run, Merged}
 use Rattle.sheet.specs.Merge.{join_of}

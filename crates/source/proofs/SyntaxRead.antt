@@ -6,7 +6,7 @@ use mathlib.Core.List.{List, [], ◌∷◌, ◌++◌, append_assoc, append-nil}
 use Rattle.base.specs.Choice.{pick}
 use Rattle.sheet.specs.Sheet.{Expression, Simple, set, send, Condition}
 use Rattle.source.specs.declared.Token.{Token}
-use Rattle.source.specs.declared.Token.TheVariants.{Name, Number, Mark}
+use Rattle.source.specs.declared.Token.TheVariants.{Name, Mark}
 use Rattle.source.specs.Tokens.{mark_if, mark_then, mark_else, mark_arrow, mark_start, mark_close}
 use Rattle.source.specs.Grammar.{Read, read, next, past, opens, behind_first, expression, named, jump, simple_at}
 use Rattle.source.specs.Grammar.{Instruction, if_then, if_else, chosen, consequent, conditional, instruction_at}

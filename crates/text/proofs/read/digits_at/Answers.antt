@@ -1,4 +1,3 @@
-use Prim.Native.Nat.{◌-◌}
 use mathlib.Core.Path.{◌∙◌}
 use native.Mathlib.Omega.{arith}
 use Rattle.base.proofs.Cases.{cases}
@@ -26,11 +25,10 @@ returns-then-v-gt-GREATEST_NUMBER c =
     record { read = rw (← c.loop-i.invariant.0, digits_here _ _ _ _ c.loop-i-test.true) (search cases depth 16); within = tt }
 
 pub loop-i-preserved : goal.loop-i-preserved
-loop-i-preserved c =
-    (
-      rw (← c.loop-i.invariant.0, digits_here _ _ _ _ c.loop-i-test.true) (search cases depth 16),
-      c.if-v-gt-GREATEST_NUMBER.false,
-    )
+loop-i-preserved c = (
+  rw (← c.loop-i.invariant.0, digits_here _ _ _ _ c.loop-i-test.true) (search cases depth 16),
+  c.if-v-gt-GREATEST_NUMBER.false,
+)
 
 pub returns : goal.returns
 returns c = record { read = digits_short _ _ _ _ c.loop-i-test.false ∙ c.loop-i.invariant.0; within = tt }
