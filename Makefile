@@ -14,9 +14,8 @@ edits:
 	@tools/edits $(CRATE)
 
 # The archive, proved. rt itself sees what has changed, but takes some 20 s to see that nothing has.
-$(ARCHIVE): crates.txt $(shell find crates -name '*.rt' -o -name '*.antt')
-	@mkdir -p target
-	@rt staticlib skimp >target/build.log 2>&1 || { cat target/build.log; exit 1; }
+$(ARCHIVE): crates.txt $(shell find crates -name out -prune -o -name '*.rt' -print -o -name '*.antt' -print)
+	@tools/library skimp_c $@
 	@touch $@
 
 # The archive, and the command over it.

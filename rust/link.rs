@@ -1,4 +1,4 @@
-//! Links a static archive that `rt staticlib` has made: what the build scripts of this workspace share.
+//! Links a static archive that tools/library has made: what the build scripts of this workspace share.
 
 use std::env;
 use std::path::PathBuf;
@@ -15,7 +15,7 @@ pub fn link(name: &str) -> ExitCode {
     let archive = folder.join(format!("lib{name}.a"));
     if !archive.is_file() {
         eprintln!(
-            "{} is missing: run `make test` (or `rt staticlib {name}`) in the repository's root",
+            "{} is missing: run `make test` (or tools/library) in the repository's root",
             archive.display()
         );
         return ExitCode::FAILURE;

@@ -10,7 +10,7 @@ use Rattle.text.specs.Pieces.{decimal}
 use Rattle.sheet.specs.declared.Operator.{Operator}
 use Rattle.sheet.specs.declared.Operator.TheVariants.{Plus, Minus, Times, Over, Power, Left, Right, And, Or, Unlike}
 use Rattle.sheet.specs.declared.Joining.{Joining}
-use Rattle.sheet.specs.declared.Joining.TheVariants.{And as Both, Or as Any}
+use Rattle.sheet.specs.declared.Joining.TheVariants.{And as Both, Or as Either}
 use Rattle.sheet.specs.declared.Field.{Field}
 use Rattle.sheet.specs.declared.Field.TheVariants.{Else, Start, Finish, If, Send, Neg, Not, Binary, Compare, Word, Constant, Set, Goto, Run}
 use Rattle.sheet.specs.Sheet.{Expression, word, constant, negated, inverted, binary, Simple, set, send, goto}
@@ -80,7 +80,7 @@ relation_text AtLeast = ">="
 
 abbrev pub joining_text : Joining → String
 joining_text Both = "AND"
-joining_text Any = "OR"
+joining_text Either = "OR"
 
 -- SET, GOTO, AND and OR stand here with the field behind them
 abbrev pub field_text : Field → List ℕ

@@ -10,7 +10,7 @@ use Rattle.order.specs.declared.Order.{Order}
 use Rattle.order.specs.declared.Order.TheVariants.{Word, Number, Store, Neg, Not, Jump, Skip, Branch, Cond, Send, Stop}
 use Rattle.order.specs.Order.{operand as order_operand}
 use Rattle.sheet.specs.declared.Operator.{Operator}
-use Rattle.sheet.specs.declared.Operator.TheVariants.{Plus, Minus, Times, Over, Power, Left, Right, And as Both, Or as Any, Unlike}
+use Rattle.sheet.specs.declared.Operator.TheVariants.{Plus, Minus, Times, Over, Power, Left, Right, And as Both, Or as Either, Unlike}
 use Rattle.sheet.specs.declared.Joining.{Joining}
 use Rattle.sheet.specs.declared.Joining.TheVariants.{And as AndRun, Or as OrRun}
 use Rattle.sheet.specs.Sheet.{Expression, word, constant, negated, inverted, binary, set, send, goto}
@@ -33,7 +33,7 @@ by_operation Exp load f cmp = f Power
 by_operation Shl load f cmp = f Left
 by_operation Shr load f cmp = f Right
 by_operation And load f cmp = f Both
-by_operation Or load f cmp = f Any
+by_operation Or load f cmp = f Either
 by_operation Xor load f cmp = f Unlike
 by_operation Cmp load f cmp = cmp
 

@@ -8,7 +8,7 @@ use Rattle.order.specs.declared.Operation.TheVariants.{Load, Add, Sub, Mlt, Div,
 use Rattle.order.specs.declared.Order.{Order}
 use Rattle.order.specs.declared.Order.TheVariants.{Word, Number, Store, Neg, Not, Jump, Send}
 use Rattle.sheet.specs.declared.Operator.{Operator}
-use Rattle.sheet.specs.declared.Operator.TheVariants.{Plus, Minus, Times, Over, Power, Left, Right, And as Both, Or as Any, Unlike}
+use Rattle.sheet.specs.declared.Operator.TheVariants.{Plus, Minus, Times, Over, Power, Left, Right, And as Both, Or as Either, Unlike}
 use Rattle.sheet.specs.Sheet.{Expression, word, constant, negated, inverted, binary, Simple, set, send, goto}
 use Rattle.sheet.specs.Sheet.{Operand, in_word, itself, worked_out, operand}
 
@@ -23,7 +23,7 @@ operation Power = Exp
 operation Left = Shl
 operation Right = Shr
 operation Both = And
-operation Any = Or
+operation Either = Or
 operation Unlike = Xor
 
 -- "Variables follow from 2 .., V of them; then T temporaries": the word of temporary d

@@ -10,7 +10,7 @@ use Rattle.base.proofs.Cases.{by_less}
 use Rattle.base.proofs.Places.{each_length, each_parted, each_same, from_more, from_over}
 use Rattle.word.specs.declared.Relation.TheVariants.{Equal, Unequal, Less, AtMost, Greater, AtLeast}
 use Rattle.sheet.specs.declared.Operator.TheVariants.{Plus, Minus, Times, Over, Power, Left, Right, And, Or, Unlike}
-use Rattle.sheet.specs.declared.Joining.TheVariants.{And as Both, Or as Any}
+use Rattle.sheet.specs.declared.Joining.TheVariants.{And as Both, Or as Either}
 use Rattle.sheet.specs.declared.Field.{Field}
 use Rattle.sheet.specs.declared.Field.TheVariants.{Else, Start, Finish, If, Send, Neg, Not, Binary, Compare, Word, Constant, Set, Goto, Run}
 use Rattle.order.proofs.Numbers.{high, low}
@@ -31,7 +31,7 @@ field_again (Constant n) = refl
 field_again (Set w) = refl
 field_again (Goto s) = refl
 field_again (Run Both n) = refl
-field_again (Run Any n) = refl
+field_again (Run Either n) = refl
 field_again (Compare Equal) = refl
 field_again (Compare Unequal) = refl
 field_again (Compare Less) = refl

@@ -6,7 +6,7 @@ use Rattle.order.specs.Limits.{most_orders}
 use Rattle.sheet.specs.declared.Operator.{Operator}
 use Rattle.sheet.specs.declared.Operator.TheVariants.{Plus, Minus, Times, Over, Power, Left, Right, And, Or, Unlike}
 use Rattle.sheet.specs.declared.Joining.{Joining}
-use Rattle.sheet.specs.declared.Joining.TheVariants.{And as Both, Or as Any}
+use Rattle.sheet.specs.declared.Joining.TheVariants.{And as Both, Or as Either}
 use Rattle.sheet.specs.declared.Field.{Field}
 use Rattle.sheet.specs.declared.Field.TheVariants.{Else, Start, Finish, If, Send, Neg, Not, Binary, Compare, Word, Constant, Set, Goto, Run}
 
@@ -32,7 +32,7 @@ relation_number AtLeast = 5
 
 abbrev pub joining_number : Joining → ℕ
 joining_number Both = 0
-joining_number Any = 1
+joining_number Either = 1
 
 abbrev pub kind : Field → ℕ
 kind Else = 0
@@ -78,7 +78,7 @@ abbrev pub bare_fields : List Field
 bare_fields = Else ∷ Start ∷ Finish ∷ If ∷ Send ∷ Neg ∷ Not ∷ []
 
 abbrev pub numbered_fields : List (ℕ → Field)
-numbered_fields = Word ∷ Constant ∷ Set ∷ Goto ∷ Run Both ∷ Run Any ∷ []
+numbered_fields = Word ∷ Constant ∷ Set ∷ Goto ∷ Run Both ∷ Run Either ∷ []
 
 unfoldable pub shapes : List (ℕ → Field)
 shapes =

@@ -19,7 +19,7 @@ use Rattle.sheet.specs.declared.Operator.{Operator}
 use Rattle.sheet.specs.declared.Operator.TheVariants.{Plus, Minus, Times, Over, Power, Left, Right, And, Or, Unlike}
 use Rattle.sheet.specs.declared.Field.{Field}
 use Rattle.sheet.specs.declared.Field.TheVariants.{Else, Start, Finish, If, Send, Neg, Not, Binary, Compare, Word, Constant, Set, Goto, Run}
-use Rattle.sheet.specs.declared.Joining.TheVariants.{And as Both, Or as Any}
+use Rattle.sheet.specs.declared.Joining.TheVariants.{And as Both, Or as Either}
 use Rattle.sheet.specs.Fields.{field_text}
 use Rattle.sheet_field.specs.Memory.{carried}
 
@@ -109,7 +109,7 @@ field_at l =
     (numbered (bytes "K") Constant l
     (numbered (bytes "SET\t") Set l
     (numbered (bytes "GOTO\t") Goto l
-    (numbered (bytes "AND\t") (Run Both) l (numbered (bytes "OR\t") (Run Any) l (among_bare bare l))))))
+    (numbered (bytes "AND\t") (Run Both) l (numbered (bytes "OR\t") (Run Either) l (among_bare bare l))))))
 
 -- the fields whose texts are fixed
 abbrev Told : Field → List ℕ → Type 0
@@ -157,7 +157,7 @@ field_read (Constant n) l c small = rw (number_read n l c small) refl
 field_read (Set w) l c small = rw (number_read w l c small) refl
 field_read (Goto s) l c small = rw (number_read s l c small) refl
 field_read (Run Both n) l c small = rw (number_read n l c small) refl
-field_read (Run Any n) l c small = rw (number_read n l c small) refl
+field_read (Run Either n) l c small = rw (number_read n l c small) refl
 
 -- nothing is no field
 pub no_field : field_at [] ≡ missing

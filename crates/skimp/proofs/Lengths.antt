@@ -18,7 +18,7 @@ use Rattle.order.specs.declared.Order.TheVariants.{Word, Number, Store, Neg, Not
 use Rattle.order.specs.Order.{operation_name, branch_name, name, kind, operand}
 use Rattle.order.specs.Object.{record_text, records_text, header_text, text}
 use Rattle.sheet.specs.declared.Operator.{Operator}
-use Rattle.sheet.specs.declared.Operator.TheVariants.{Plus, Minus, Times, Over, Power, Left, Right, And as Both, Or as Any, Unlike}
+use Rattle.sheet.specs.declared.Operator.TheVariants.{Plus, Minus, Times, Over, Power, Left, Right, And as Both, Or as Either, Unlike}
 use Rattle.sheet.specs.declared.Joining.{Joining}
 use Rattle.sheet.specs.declared.Joining.TheVariants.{And as AndRun, Or as OrRun}
 use Rattle.sheet.specs.declared.Field.{Field}
@@ -141,7 +141,7 @@ operator_few Power = omega arith
 operator_few Left = omega arith
 operator_few Right = omega arith
 operator_few Both = omega arith
-operator_few Any = omega arith
+operator_few Either = omega arith
 operator_few Unlike = omega arith
 
 relation_few : (r : Relation) → length (bytes (relation_text r)) ≤ 15
