@@ -9,18 +9,16 @@ use lib.ListN.{length, get_or, drop, length-map, length-drop}
 use lib.Seq.{drop-cons}
 use Rattle.base.specs.Choice.{pick}
 use Rattle.sheet.specs.declared.Field.{Field}
-use Rattle.sheet.specs.Sheet.{Part, count}
-use Rattle.sheet.specs.Memory.{part_fields}
+use Rattle.sheet.specs.Sheet.{count}
 use Rattle.sheet.specs.Within.{PartFormed}
 use Rattle.sheet_field.specs.Memory.{field_in, fields_at, most_fields}
 use Rattle.order.specs.Limits.{most_variables}
 use Rattle.sheet_check.specs.declared.State.{State}
 use Rattle.sheet_check.specs.declared.Step.{Step}
 use Rattle.sheet_check.specs.declared.Step.TheVariants.{To, Missing}
-use Rattle.sheet_check.specs.declared.Checked.{Checked}
 use Rattle.sheet_check.specs.declared.Checked.TheVariants.{Sheet, Missing as NoSheet}
 use Rattle.sheet_check.specs.Internal.{begins, begun, step_of, is_final, start, on_step, accepts}
-use Rattle.sheet_check.specs.Answers.{FieldsOf, Found, Checks}
+use Rattle.sheet_check.specs.Answers.{Checks}
 use Rattle.sheet_check.proofs.States.{Small, start_small, step_small}
 use Rattle.sheet_check.proofs.Complete.{complete, begun_part}
 use Rattle.sheet_check.proofs.Sound.{sound}

@@ -1,6 +1,6 @@
 -- The numbers in the lines of a sheet within the limits are at most 2147483647: each is a variable's word, a constant, the number
 -- of the members of a run, or that of an instruction, and no sheet has more instructions than its translation has orders.
-use Prim.Native.Nat.{ℕ, ◌+◌, ◌≤◌}
+use Prim.Native.Nat.{ℕ, ◌≤◌}
 use mathlib.Core.List.{[], ◌∷◌, ◌++◌}
 use native.Mathlib.Omega.{arith}
 use lib.ListN.{length-append}

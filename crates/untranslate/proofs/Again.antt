@@ -1,33 +1,27 @@
 -- Fields in memory, words compared, and the translation made again.
-use Prim.Native.Nat.{ℕ, zero, suc, ◌+◌, ◌*◌, ◌≤◌, ◌<◌}
-use mathlib.Core.Path.{◌≡◌, refl, sym, ap, ap₂, subst, ◌∙◌}
+use Prim.Native.Nat.{ℕ, zero, suc, ◌+◌, ◌≤◌, ◌<◌}
+use mathlib.Core.Path.{◌≡◌, refl, sym, ap, ap₂, ◌∙◌}
 use mathlib.Core.Bool.{Bool, true, false}
 use mathlib.Core.List.{List, [], ◌∷◌, ◌++◌, map}
 use native.Mathlib.Omega.{arith}
 use native.Mathlib.Nat.{zero-add}
 use native.Mathlib.Numerals.{add-one}
-use lib.ListN.{length, get_or, take, drop, length-append, length-map}
-use lib.Seq.{sets, take-suc, take_all}
+use lib.ListN.{length, get_or, take, length-map}
+use lib.Seq.{take-suc, take_all}
 use Rattle.base.proofs.Cases.{by_less}
 use Rattle.base.proofs.Lists.{take_sets}
-use Rattle.order.specs.declared.Order.{Order}
 use Rattle.order.specs.Limits.{most_variables, most_orders}
-use Rattle.order.specs.Good.{Good}
-use Rattle.order.specs.Memory.{order_word, orders_in}
-use Rattle.order.proofs.Arrays.{Narrow, orders_in_law, good_narrow}
+use Rattle.order.specs.Memory.{order_word}
 use Rattle.sheet.specs.declared.Field.{Field}
 use Rattle.sheet.specs.declared.Field.TheVariants.{Else, Start, Finish, If}
 use Rattle.sheet.specs.Sheet.{Expression, word, constant, negated, inverted, binary, Simple, set, send, goto}
-use Rattle.sheet.specs.Sheet.{Condition, compares, joins, Part, end, plain, when, either, count, Sheet, sheet, instructions, variables}
+use Rattle.sheet.specs.Sheet.{Condition, compares, joins, Part, end, plain, when, either, count, sheet}
 use Rattle.sheet.specs.Formed.{Expressed, SimpleFormed}
 use Rattle.sheet.specs.Condition.{AllExpressed}
 use Rattle.sheet.specs.Fields.{expression_fields, simple_fields}
-use Rattle.sheet.specs.Memory.{condition_fields, part_fields, sheet_fields}
-use Rattle.sheet.specs.Translation.{size, translation, temporaries_of, sheet_temporaries}
-use Rattle.sheet.specs.Within.{PartFormed, depth, most_levels, Within}
-use Rattle.sheet.specs.ReadBack.{Given, given, none, untranslate}
-use Rattle.sheet.proofs.ReadBack.{read_back_law, given_translates}
-use Rattle.sheet.proofs.GoodObject.{translation_good}
+use Rattle.sheet.specs.Memory.{condition_fields, part_fields}
+use Rattle.sheet.specs.Translation.{translation, temporaries_of}
+use Rattle.sheet.specs.Within.{PartFormed}
 use Rattle.sheet_field.specs.Memory.{carried, field_word, field_in, fields_at, most_fields}
 use Rattle.sheet_field.proofs.Stored.{field_in_law}
 use Rattle.translate.specs.declared.Translated.{Translated}

@@ -1,23 +1,23 @@
 -- The sheet that is read back.
-use Prim.Native.Nat.{ℕ, ◌+◌, ◌*◌, ◌≤◌, ◌<◌}
+use Prim.Native.Nat.{ℕ, ◌+◌, ◌≤◌}
 use mathlib.Core.Path.{◌≡◌, refl, sym, ap, ap₂, subst, ◌∙◌}
 use mathlib.Core.Bool.{Bool, true, false}
-use mathlib.Core.List.{List, [], ◌∷◌, ◌++◌, map}
+use mathlib.Core.List.{List, [], ◌∷◌, map}
 use native.Mathlib.Omega.{arith}
 use native.Mathlib.Nat.{zero-add}
 use lib.ListN.{length, take, length-append, length-map}
-use lib.Seq.{sets, length-take-le}
+use lib.Seq.{length-take-le}
 use Rattle.base.proofs.Lists.{take_sets}
 use Rattle.order.specs.declared.Order.{Order}
 use Rattle.order.specs.declared.Order.TheVariants.{Stop}
-use Rattle.order.specs.Limits.{most_variables, most_orders}
+use Rattle.order.specs.Limits.{most_orders}
 use Rattle.order.specs.Good.{Good}
 use Rattle.order.specs.Memory.{order_word, orders_in}
 use Rattle.order.proofs.Arrays.{Narrow, orders_in_law, good_narrow}
-use Rattle.sheet.specs.Sheet.{Part, count, Sheet, sheet, instructions, variables}
-use Rattle.sheet.specs.Memory.{part_fields, sheet_fields}
+use Rattle.sheet.specs.Sheet.{Part, count, sheet}
+use Rattle.sheet.specs.Memory.{part_fields}
 use Rattle.sheet.specs.Translation.{size, first_order, part_code, translation, temporaries_of}
-use Rattle.sheet.specs.Within.{PartFormed, depth, most_levels, Within}
+use Rattle.sheet.specs.Within.{Within}
 use Rattle.sheet.specs.ReadBack.{Given, given, none, untranslate}
 use Rattle.sheet.proofs.Sizes.{code_length, count_size}
 use Rattle.sheet.proofs.ReadBack.{read_back_law, given_translates}
@@ -25,12 +25,12 @@ use Rattle.sheet.proofs.GoodObject.{translation_good}
 use Rattle.sheet_field.specs.Memory.{field_word, field_in, fields_at, most_fields}
 use Rattle.sheet_check.specs.declared.Checked.{Checked}
 use Rattle.sheet_check.specs.declared.Checked.TheVariants.{Sheet as IsSheet, Missing as NoSheet}
-use Rattle.sheet_check.specs.Answers.{FieldsOf, Found, Checks}
+use Rattle.sheet_check.specs.Answers.{FieldsOf, Checks}
 use Rattle.untranslate_part.specs.Guess.{Guessed, Guessing}
 use Rattle.sheet.proofs.Lengths.{part_few}
 use Rattle.untranslate.specs.declared.Untranslated.{Untranslated}
 use Rattle.untranslate.specs.declared.Untranslated.TheVariants.{Sheet as Read, Missing}
-use Rattle.untranslate.specs.Internal.{Again, AgainOf}
+use Rattle.untranslate.specs.Internal.{Again}
 use Rattle.untranslate.specs.Answers.{Answers, Untranslates}
 use Rattle.untranslate.proofs.Again.{stored_part}
 

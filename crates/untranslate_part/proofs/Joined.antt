@@ -21,7 +21,7 @@ use Rattle.untranslate_condition.specs.Internal.{lead_at, branches_end, PastBran
 use Rattle.untranslate_condition.proofs.Places.{orders_past, orders_before}
 use Rattle.untranslate_condition.proofs.Leads.{condition_branches}
 use Rattle.untranslate_condition.proofs.Conditions.{far_length, try_far, Leads, branch_before}
-use Rattle.untranslate_part.specs.declared.Begun.TheVariants.{Whole, Asked, Missing}
+use Rattle.untranslate_part.specs.declared.Begun.TheVariants.{Asked, Missing}
 use Rattle.untranslate_part.specs.Internal.{Further, Joined}
 
 none_left : (q : ℕ) (l : List Order) → branches_end 0 q l ≡ q

@@ -144,7 +144,9 @@ behind_by here t n = pick here (pick t (suc n) n) n
 pub numbers_length : (first : ℕ) (here : Bool) (b n : ℕ) (l : List Order) → length (numbers first here b n l) ≡ length l
 unfolding numbers
 numbers_length first here b n [] = refl
-numbers_length first here b n (o ∷ l) = ap suc (numbers_length first _ _ _ l)
+numbers_length first here b n (o ∷ l) =
+    let q = role_of first o in
+    ap suc (numbers_length first (ends_by b q) (inner_by b q) (number_behind here q n) l)
 
 module _ (v : ℕ) where
   -- one order on; b branches are to come that do not end their IF

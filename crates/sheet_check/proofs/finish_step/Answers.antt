@@ -1,0 +1,15 @@
+use Rattle.base.proofs.Cases.{cases}
+use Rattle.sheet_check.specs.Internal.{finish_step}
+use Rattle.sheet_check.proofs.finish_step.Goals as goal
+
+pub returns-then-s-eq0 : goal.returns-then-s-eq0
+unfolding finish_step
+returns-then-s-eq0 c = search cases depth 16
+
+pub returns-then-s : goal.returns-then-s
+unfolding finish_step
+returns-then-s c = rw c.among.ensures (search cases depth 16)
+
+pub returns : goal.returns
+unfolding finish_step
+returns c = search cases depth 16

@@ -1,0 +1,12 @@
+use Prim.Native.Nat.{◌-◌, ◌≤◌}
+use mathlib.Core.Path.{◌≡◌}
+use lib.ListN.{length}
+use Rattle.untranslate_expression.specs.Internal.{orders_at}
+use Rattle.untranslate_condition.specs.Internal.{member_end}
+use Rattle.untranslate_condition.proofs.first_member.Given as goal
+
+abbrev pub invariant-loop-k : goal.invariant-loop-k
+invariant-loop-k l = (l.p ≤ l.k) × (l.p ≤ length l.orders → l.k ≤ length l.orders) × (member_end (length l.orders) l.m l.k (orders_at l.k l.orders) ≡ member_end (length l.orders) 0 l.p (orders_at l.p l.orders))
+
+abbrev pub decreases-loop-k : goal.decreases-loop-k
+decreases-loop-k l = length l.orders - l.k
