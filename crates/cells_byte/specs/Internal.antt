@@ -1,5 +1,5 @@
 -- What the functions compute. `held` is the number of cells held, and `last` the last of them, or 0.
-use Rattle.std.specs.Prelude.{ℕ, ◌-◌, Bool, true, ltb, eqb}
+use Rattle.std.specs.Prelude.{ℕ, Bool, true, ltb, eqb}
 use Rattle.base.specs.Choice.{pick}
 use Rattle.source.specs.declared.Mode.{Mode}
 use Rattle.source.specs.declared.Mode.TheVariants.{Plain, Keyword, Quoted, Comment}
