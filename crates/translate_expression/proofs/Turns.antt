@@ -4,16 +4,16 @@ use mathlib.Core.Path.{◌≡◌, refl, sym, ap, subst, ◌∙◌}
 use mathlib.Core.Bool.{Bool, true, false}
 use mathlib.Core.List.{List, [], ◌∷◌, ◌++◌, map, append_assoc}
 use native.Mathlib.Omega.{arith}
-use native.Mathlib.Nat.{add-zero, add_assoc}
+use native.Mathlib.Nat.{add_assoc}
 use native.Mathlib.Numerals.{add-one}
-use lib.ListN.{length, get_or, drop, length-append, length-map}
-use lib.Seq.{sets, drop-cons}
+use lib.ListN.{length, get_or, length-append, length-map}
+use lib.Seq.{drop-cons}
 use Rattle.base.proofs.Cases.{by_less}
 use Rattle.base.proofs.Lists.{sets_append}
 use Rattle.order.specs.declared.Operation.{Operation}
 use Rattle.order.specs.declared.Operation.TheVariants.{Load, Cmp}
 use Rattle.order.specs.declared.Order.{Order}
-use Rattle.order.specs.declared.Order.TheVariants.{Word, Number, Store, Neg, Not}
+use Rattle.order.specs.declared.Order.TheVariants.{Store, Neg, Not}
 use Rattle.sheet.specs.declared.Field.{Field}
 use Rattle.sheet.specs.Sheet.{Expression, word, constant, negated, inverted, binary, operand, worked_out}
 use Rattle.sheet.specs.Fields.{expression_fields}
