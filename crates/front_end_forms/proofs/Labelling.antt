@@ -16,7 +16,7 @@ use Rattle.source.specs.Program.{Program, Outcome, refused, further, can_set, la
 use Rattle.labels.specs.declared.Set.{Set}
 use Rattle.labels.specs.declared.Set.TheVariants.{Labels as Sets, Refused as NotSet, Unfit as SetUnfit}
 use Rattle.labels.specs.Memory.{labels_of, SoFar}
-use Rattle.labels.specs.Answers.{labels, set_in, set_all, SetsLabels, SoFarIn}
+use Rattle.labels.specs.Answers.{set_in, set_all, SetsLabels, SoFarIn}
 use Rattle.labels.proofs.Setting.{not_set_all, set_together, set_whole, never_unfit}
 use Rattle.front_end_forms.specs.declared.Progress.{Progress}
 use Rattle.front_end_forms.specs.declared.Step.TheVariants.{Further, Refused}

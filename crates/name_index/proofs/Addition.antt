@@ -2,12 +2,14 @@
 use Prim.Native.Nat.{ℕ, suc, ◌+◌, ◌-◌, ◌%◌, ◌<◌, ◌≤◌}
 use mathlib.Core.Bool.{true, false}
 use mathlib.Core.Path.{◌≡◌, refl, sym, ap, ap₂, ◌∙◌}
-use mathlib.Core.List.{List, [], ◌∷◌, ◌++◌, append-nil, append_assoc}
+use mathlib.Core.List.{List, [], ◌∷◌, ◌++◌, append_assoc}
 use native.Mathlib.Omega.{arith}
 use borrow.Author.Tests.{lt-ltb, le-ltb, le-leb, lt-leb}
 use lib.Dec.{ltb}
-use lib.ListN.{length, get_or, take, drop, set, length-drop, length-append, take-append-drop, drop_of_length-le, get_or-append}
-use lib.Seq.{sets, take_all, take-length, drop-drop, sets-eq, length-sets, take_at, drop_at, take-append-le, drop-append-le, length-take-le, get_or-set_same, get_or-set_other, get_or-append_seam, take-set-le}
+use lib.ListN.{length, get_or, take, drop, set, length-drop, length-append, take-append-drop, get_or-append}
+use lib.Seq.{sets, take-length, sets-eq, length-sets, take_at, drop_at, take-append-le, drop-append-le, length-take-le, get_or-set_same, get_or-set_other, get_or-append_seam, take-set-le}
+use borrow.Rule.Slice.PartMut.{put_mid}
+use Rattle.std.proofs.lemmas.Slice.{put_mid-paste}
 use Rattle.base.specs.Choice.{pick}
 use Rattle.base.proofs.Cases.{by_test, by_less, by_equal}
 use Rattle.source.specs.Limits.{most_bytes, most_cells}
@@ -88,19 +90,10 @@ module _ {v place i : ℕ} {index after : List ℕ} (s : Shifted v place i index
 -- ---- letters put behind others
 
 -- a name copied into the part of a buffer that begins at a place
-pub copied : (l n part : List ℕ) (at : ℕ) → at + length n ≤ length l → part ≡ take (length n) n ++ drop (length n) (take (length l - at) (drop at l))
-    → take at l ++ (part ++ drop (length l - at) (drop at l)) ≡ sets l at n
+pub copied : (l n part : List ℕ) (at : ℕ) → at + length n ≤ length l → part ≡ n → put_mid at (at + length n - at) l part ≡ sets l at n
 copied l n part at room e =
-    let left : length (drop at l) ≡ length l - at = length-drop at l in
-    rw (
-      e,
-      take_all (length l - at) (drop at l) (omega (arith, left)),
-      drop_of_length-le (drop at l) {i = length l - at} (omega (arith, left)),
-      take-length n,
-      drop-drop (length n) at l,
-      append-nil (n ++ drop (at + length n) l),
-    )
-    (sym (sets-eq n l at room ∙ append_assoc (take at l) n (drop (at + length n) l)))
+    put_mid-paste at (at + length n - at) l part n (length n) e (omega arith) refl
+    ∙ rw (take-length n) (sym (sets-eq n l at room))
 
 take_sets_before : (vs l : List ℕ) (i k : ℕ) → i ≤ k → take i (sets l k vs) ≡ take i l
 take_sets_before [] l i k h = refl
