@@ -4,8 +4,6 @@ use mathlib.Core.Path.{◌≡◌, refl, sym, ap, subst, ◌∙◌}
 use mathlib.Core.Bool.{Bool, true, false}
 use mathlib.Core.List.{List, [], ◌∷◌, map}
 use native.Mathlib.Omega.{arith}
-use denote.Enum.Declared.{tag_of}
-use types.Run.{OneOf, miss}
 use borrow.Author.Tests.{le-ltb, ne_eqb}
 use lib.Dec.{ltb, eqb}
 use lib.ListN.{length, get_or, drop_of_length-le}
@@ -23,13 +21,12 @@ use Rattle.sheet_field.specs.Memory.{shapes, field_of, field_word, field_in, fie
 use Rattle.sheet_field.proofs.Numbering.{no_field}
 use Rattle.sheet_field.proofs.Stored.{field_in_law, field_ended}
 use Rattle.sheet_line.specs.declared.Node.{Node}
-use Rattle.sheet_line.specs.contracts.Node.{the_type as node_type}
 use Rattle.sheet_line.specs.declared.Node.TheVariants.{Comparison, Run as Joined, If as Asks, Other}
 use Rattle.sheet_line.specs.declared.Back.{Back}
 use Rattle.sheet_line.specs.declared.Back.TheVariants.{On, Told}
 use Rattle.sheet_line.specs.declared.Count.{Count}
 use Rattle.sheet_line.specs.declared.Count.TheVariants.{On as Further, Done}
-use Rattle.sheet_line.specs.Runs.{node_of, back_step, on_back, is_rest, member_step, on_count, members_from, line_by, line_field}
+use Rattle.sheet_line.specs.Runs.{node_of, back_step, on_back, is_rest, member_step, on_count, members_from, line_field}
 use Rattle.sheet_line.specs.Answers.{before}
 
 -- ---- what a field is to a condition, by the number of its kind
@@ -155,19 +152,6 @@ module _ (ws : List ℕ) (w : Joining) where
 module _ (ws : List ℕ) (at : ℕ) (n : Node) (e : n ≡ node_of (field_in (get_or ws at 0))) where
   abbrev here : Field
   here = field_in (get_or ws at 0)
-
-  -- the nodes that are no run
-  abbrev plain : List ℕ
-  plain = 0 ∷ 2 ∷ 3 ∷ []
-
-  pub shown_plain : OneOf plain (tag_of node_type n) → here ∷ [] ≡ line_field (before at ws) here (fields_at (at + 1) ws)
-  shown_plain k = by n k ∙ ap (line_by (before at ws) here (fields_at (at + 1) ws)) e
-    where
-      by : (n : Node) → OneOf plain (tag_of node_type n) → here ∷ [] ≡ line_by (before at ws) here (fields_at (at + 1) ws) n
-      by Comparison k = refl
-      by (Joined u) k = absurd (miss plain 1 tt k)
-      by Asks k = refl
-      by Other k = refl
 
   module _ (u : Joining) (g : n ≡ Joined u) where
     pub shown_rest : true ≡ is_rest u 0 (before at ws) → [] ≡ line_field (before at ws) here (fields_at (at + 1) ws)
