@@ -13,7 +13,7 @@ use Rattle.order.specs.Good.{Good}
 use Rattle.order.specs.Memory.{order_word}
 use Rattle.order.specs.Object.{Reading, object, refused, reading, lines_of}
 use Rattle.order.proofs.RoundTrip.{read_good, lines_read}
-use Rattle.sheet.specs.Sheet.{Sheet, sheet, count, instructions, variables}
+use Rattle.sheet.specs.Sheet.{count, instructions}
 use Rattle.sheet.specs.Memory.{sheet_fields}
 use Rattle.sheet.specs.ReadBack.{Given, given, none, untranslate}
 use Rattle.sheet.proofs.ReadBack.{given_translates}
