@@ -14,7 +14,7 @@ use Rattle.sheet.specs.Translation.{size}
 use Rattle.sheet_field.specs.Memory.{fields_from}
 use Rattle.source.specs.declared.Mode.TheVariants.{Plain}
 use Rattle.source.specs.Cells.{Statements, ended, cut, ◌then◌, statements_from, statements}
-use Rattle.source.specs.Program.{Program, nothing_read, count_outside, orders_outside, Outcome, statement}
+use Rattle.source.specs.Program.{nothing_read, count_outside, orders_outside, Outcome, statement}
 use Rattle.source.specs.Source.{Answer, accepted, on_outcome, program, NotAllowed, is_allowed, not_allowed, offset, all_allowed, on_allowed, answer}
 use Rattle.source.specs.Memory.{held, letters_in}
 use Rattle.source.specs.Limits.{most_bytes}
