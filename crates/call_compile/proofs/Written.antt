@@ -1,11 +1,11 @@
 -- The text of a sheet's object, from the array that the translation fills.
 use Prim.Native.Nat.{ℕ, ◌≤◌}
-use mathlib.Core.Path.{◌≡◌, refl, sym, ap, ap₂, ◌∙◌}
+use mathlib.Core.Path.{◌≡◌, sym, ap, ap₂, ◌∙◌}
 use mathlib.Core.List.{List}
 use native.Mathlib.Omega.{arith}
 use lib.ListN.{length, take}
 use lib.Seq.{length-take-le}
-use Rattle.order.specs.Limits.{most_variables, most_orders}
+use Rattle.order.specs.Limits.{most_orders}
 use Rattle.order.specs.Memory.{orders_in}
 use Rattle.order.specs.Object.{text}
 use Rattle.order.proofs.Arrays.{good_narrow, array_holds}

@@ -26,7 +26,7 @@ use Rattle.sheet.specs.declared.Field.TheVariants.{Else, Start, Finish, If, Send
 use Rattle.sheet.specs.Sheet.{Simple, set, send, goto, Condition, compares, joins, Part, end, plain, when, either, count, Sheet, sheet, variables}
 use Rattle.sheet.specs.Within.{Within}
 use Rattle.sheet.specs.Fields.{simple_fields, member_count, Place, member, rest_of, heading, condition_line}
-use Rattle.sheet.specs.Fields.{operator_text, relation_text, joining_text, field_text, line_rest, line, lines, sheet_text}
+use Rattle.sheet.specs.Fields.{operator_text, relation_text, field_text, line_rest, line, lines, sheet_text}
 use Rattle.sheet.specs.Memory.{condition_fields, part_fields}
 use Rattle.sheet.specs.Translation.{translation, sheet_temporaries, object_text}
 use Rattle.sheet.proofs.Lengths.{translation_length, part_few}
