@@ -90,7 +90,14 @@ fn read_back<R: Print>(rt: &R, object: &[u8]) -> io::Result<()> {
 }
 
 // Runs an object from the state in the lent bytes, and says how it ends and in how many steps.
-fn run<R: Print>(rt: &R, what: &[u8], object: &[u8], state: &mut [u8], output: &mut [u8], budget: u32) -> io::Result<()> {
+fn run<R: Print>(
+    rt: &R,
+    what: &[u8],
+    object: &[u8],
+    state: &mut [u8],
+    output: &mut [u8],
+    budget: u32,
+) -> io::Result<()> {
     let reply = skimp::skimp_run(object, state, output, budget);
     say(rt, what)?;
     say(rt, b": ")?;
@@ -392,10 +399,13 @@ fn short_buffers<R: Print>(rt: &R) -> io::Result<()> {
     show_bytes(rt, b"object", &object)?;
     let mut sheet = [255u8; 17];
     say(rt, b"sheet buffer one byte short: ")?;
-    say_reply(rt, skimp::skimp_read_back(
-        b"BOX\t0\t0\t3\nLOAD\tK\t1\nSEND\t-\t0\nSTOP\t-\t0\n",
-        &mut sheet,
-    ))?;
+    say_reply(
+        rt,
+        skimp::skimp_read_back(
+            b"BOX\t0\t0\t3\nLOAD\tK\t1\nSEND\t-\t0\nSTOP\t-\t0\n",
+            &mut sheet,
+        ),
+    )?;
     show_bytes(rt, b"sheet", &sheet)
 }
 
@@ -454,14 +464,24 @@ fn faults<R: Print>(rt: &R) -> io::Result<()> {
 // Each refusal of an object with its place, by run and by read-back. "Refused calls write nothing."
 fn refusals<R: Print>(rt: &R) -> io::Result<()> {
     let mut state = [7u8; 28];
-    refused(rt, b"leading zero", b"BOX\t00\t0\t1\nSTOP\t-\t0\n", &mut state)?;
+    refused(
+        rt,
+        b"leading zero",
+        b"BOX\t00\t0\t1\nSTOP\t-\t0\n",
+        &mut state,
+    )?;
     refused(
         rt,
         b"wrong kind",
         b"BOX\t0\t0\t2\nNEG\tK\t0\nSTOP\t-\t0\n",
         &mut state,
     )?;
-    refused(rt, b"extra text", b"BOX\t0\t0\t1\nSTOP\t-\t0\n\n", &mut state)?;
+    refused(
+        rt,
+        b"extra text",
+        b"BOX\t0\t0\t1\nSTOP\t-\t0\n\n",
+        &mut state,
+    )?;
     refused(
         rt,
         b"link word",
@@ -480,7 +500,12 @@ fn refusals<R: Print>(rt: &R) -> io::Result<()> {
         b"BOX\t0\t0\t2\nSTOP\t-\t0\nSTOP\t-\t0\n",
         &mut state,
     )?;
-    refused(rt, b"other state", b"BOX\t1\t0\t1\nSTOP\t-\t0\n", &mut state)?;
+    refused(
+        rt,
+        b"other state",
+        b"BOX\t1\t0\t1\nSTOP\t-\t0\n",
+        &mut state,
+    )?;
     show_bytes(rt, b"state", &state)
 }
 
