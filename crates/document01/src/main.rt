@@ -379,13 +379,13 @@ fn programs<R: Print>(rt: &R) -> io::Result<()> {
 fn groups<R: Print>(rt: &R) -> io::Result<()> {
     readings(
         rt,
-        b"a group in a group\t%BEGIN;%IF 1=1 %THEN %STArt;%IF 1=2 %THEN %STArt;SEND(1);%FINISH %ELSE %STArt;SEND(2);%FINISH;%FINISH;%ENDOFPROGRAM\n\
-        a label behind a first part\t%BEGIN;%IF 1=1 %THEN %STArt;->1;1:;%FINISH %ELSE %STArt;SEND(1);%FINISH;SEND(2);%ENDOFPROGRAM\n\
-        labels alone in a group\t%BEGIN;%IF 1=1 %THEN %STArt;1:;%FINISH;%ENDOFPROGRAM\n\
-        a group left open\t%BEGIN;%IF 1=1 %THEN %STArt;->1;%ENDOFPROGRAM\n\
+        b"a group in a group\t%BEGIN;%IF 1=1 %THEN %START;%IF 1=2 %THEN %START;SEND(1);%FINISH %ELSE %START;SEND(2);%FINISH;%FINISH;%ENDOFPROGRAM\n\
+        a label behind a first part\t%BEGIN;%IF 1=1 %THEN %START;->1;1:;%FINISH %ELSE %START;SEND(1);%FINISH;SEND(2);%ENDOFPROGRAM\n\
+        labels alone in a group\t%BEGIN;%IF 1=1 %THEN %START;1:;%FINISH;%ENDOFPROGRAM\n\
+        a group left open\t%BEGIN;%IF 1=1 %THEN %START;->1;%ENDOFPROGRAM\n\
         no group to close\t%BEGIN;SEND(1);%FINISH;%ENDOFPROGRAM\n\
-        %FINISH %ELSE with an instruction\t%BEGIN;%IF 1=1 %THEN %STArt;SEND(1);%FINISH %ELSE SEND(2);%ENDOFPROGRAM\n\
-        17 levels\t%BEGIN;%IF 1=1 %THEN %STArt;%IF 1=1 %THEN %STArt;%IF 1=1 %THEN %STArt;%IF 1=1 %THEN %STArt;%IF 1=1 %THEN %STArt;%IF 1=1 %THEN %STArt;%IF 1=1 %THEN %STArt;%IF 1=1 %THEN %STArt;%IF 1=1 %THEN %STArt;%IF 1=1 %THEN %STArt;%IF 1=1 %THEN %STArt;%IF 1=1 %THEN %STArt;%IF 1=1 %THEN %STArt;%IF 1=1 %THEN %STArt;%IF 1=1 %THEN %STArt;%IF 1=1 %THEN %STArt;%IF 1=1 %THEN SEND(1);%ENDOFPROGRAM",
+        %FINISH %ELSE with an instruction\t%BEGIN;%IF 1=1 %THEN %START;SEND(1);%FINISH %ELSE SEND(2);%ENDOFPROGRAM\n\
+        17 levels\t%BEGIN;%IF 1=1 %THEN %START;%IF 1=1 %THEN %START;%IF 1=1 %THEN %START;%IF 1=1 %THEN %START;%IF 1=1 %THEN %START;%IF 1=1 %THEN %START;%IF 1=1 %THEN %START;%IF 1=1 %THEN %START;%IF 1=1 %THEN %START;%IF 1=1 %THEN %START;%IF 1=1 %THEN %START;%IF 1=1 %THEN %START;%IF 1=1 %THEN %START;%IF 1=1 %THEN %START;%IF 1=1 %THEN %START;%IF 1=1 %THEN %START;%IF 1=1 %THEN SEND(1);%ENDOFPROGRAM",
     )?;
     Ok(())
 }

@@ -1,5 +1,5 @@
-// The functions that the box's supervisor calls, as a library: crate skimp_c exports them to C. include/skimp.h says in plain words what they do, specs/Promises.antt what is
-// proved of them.
+// The functions that the box's supervisor calls, as a library: crate skimp_c exports them to C. include/skimp.h says in plain words
+// what they do, specs/Promises.antt what is proved of them.
 #![tactic(auto)]
 
 ghost use Rattle.std.specs.Prelude.{◌≡◌};
