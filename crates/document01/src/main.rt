@@ -4,7 +4,7 @@
 // 01 and 02 say of each.
 #![tactic(auto)]
 
-ghost use Rattle.std.specs.Prelude.{◌≤◌, length};
+ghost use Rattle.std.specs.Prelude.{ℕ, ◌≡◌, ◌≢◌, ◌<◌, ◌≤◌, length, slice_index};
 
 use base::part;
 use skimp::{MOST_OBJECT_BYTES, MOST_SHEET_BYTES};
@@ -181,7 +181,10 @@ fn value<R: Print>(rt: &R, object: &[u8], state: &mut [u8]) -> io::Result<()> {
 
 // The place of the first such byte from a place on, or the length where there is none.
 fn find(bytes: &[u8], from: usize, byte: u8) -> usize
-    ensures { from ≤ length bytes.now → from ≤ result }
+    ensures within { result ≤ length bytes.now }
+    ensures behind { from ≤ length bytes.now → from ≤ result }
+    ensures none_before { (k : ℕ) → from ≤ k → k < result → slice_index bytes.now k ≢ byte }
+    ensures found { result < length bytes.now → slice_index bytes.now result ≡ byte }
 {
     for i in from..bytes.len() {
         if bytes[i] == byte {
