@@ -14,6 +14,22 @@ pub fn larger(a: u32, b: u32) -> u32
     a
 }
 
+// What stands at a place, or `otherwise` behind the end.
+pub fn at<T: Copy>(items: &[T], i: usize, otherwise: T) -> T
+    ensures { result ≡ get_or items.now i otherwise }
+{
+    items.get(i).copied().unwrap_or(otherwise)
+}
+
+// Stores at a place, if there is one.
+pub fn put<T: Copy>(items: &mut [T], i: usize, item: T)
+    ensures { items.new ≡ set items.old i item }
+{
+    if i < items.len() {
+        items[i] = item;
+    }
+}
+
 pub fn byte_at(bytes: &[u8], i: usize) -> u8
     ensures { result ≡ get_or bytes.now i 0 }
 {

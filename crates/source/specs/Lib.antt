@@ -10,3 +10,4 @@ pub mod Source
 pub mod Memory
 pub mod Readings
 pub mod Spelling
+pub mod Refusals

@@ -1,6 +1,9 @@
 // Sources, document 01 ("From bytes to statements", "Statements"): what the stages from source bytes to a sheet hand on.
 #![tactic(auto)]
 
+ghost use Rattle.std.specs.Prelude.{◌≡◌};
+ghost use Rattle.source.specs.Refusals.{refusal_number};
+
 pub mod marks;
 
 use sheet::Operator;
@@ -48,4 +51,29 @@ pub enum Token {
     Binary(Operator),
     Compare(Relation),
     Mark(u32),
+}
+
+// Why a source is refused, each with document 01's number ("What the box replies").
+#[derive(Clone, Copy, Debug, PartialEq, Eq)]
+pub enum Refusal {
+    Length = 1,
+    Byte = 2,
+    Quotes = 3,
+    Cells = 4,
+    Keyword = 5,
+    Constant = 6,
+    Form = 7,
+    Name = 8,
+    Label = 9,
+    Unended = 10,
+    Limit = 11,
+    Group = 13,
+}
+
+impl Refusal {
+    pub fn number(self) -> u32
+        ensures { result ≡ refusal_number self }
+    {
+        self as u32
+    }
 }
