@@ -28,42 +28,21 @@ pub fn operator_number(o: Operator) -> u8
     ensures numbered { result ≡ operator_number o }
     ensures few { result < 10 }
 {
-    match o {
-        Operator::Plus => 0,
-        Operator::Minus => 1,
-        Operator::Times => 2,
-        Operator::Over => 3,
-        Operator::Power => 4,
-        Operator::Left => 5,
-        Operator::Right => 6,
-        Operator::And => 7,
-        Operator::Or => 8,
-        Operator::Unlike => 9,
-    }
+    o as u8
 }
 
 pub fn relation_number(s: Relation) -> u8
     ensures numbered { result ≡ relation_number s }
     ensures few { result < 6 }
 {
-    match s {
-        Relation::Equal => 0,
-        Relation::Unequal => 1,
-        Relation::Less => 2,
-        Relation::AtMost => 3,
-        Relation::Greater => 4,
-        Relation::AtLeast => 5,
-    }
+    s as u8
 }
 
 pub fn joining_number(w: Joining) -> u8
     ensures numbered { result ≡ joining_number w }
     ensures few { result < 2 }
 {
-    match w {
-        Joining::And => 0,
-        Joining::Or => 1,
-    }
+    w as u8
 }
 
 // The number of a field's kind.
@@ -93,20 +72,10 @@ pub fn value_of(f: Field) -> u32
     ensures { result ≡ carried f }
 {
     match f {
-        Field::Else => 0,
-        Field::Start => 0,
-        Field::Finish => 0,
-        Field::If => 0,
-        Field::Send => 0,
-        Field::Neg => 0,
-        Field::Not => 0,
-        Field::Binary(_) => 0,
-        Field::Compare(_) => 0,
-        Field::Word(w) => w,
-        Field::Constant(n) => n,
-        Field::Set(w) => w,
+        Field::Word(w) | Field::Set(w) => w,
+        Field::Constant(n) | Field::Run(_, n) => n,
         Field::Goto(s) => s,
-        Field::Run(_, n) => n,
+        _ => 0,
     }
 }
 
@@ -244,8 +213,5 @@ pub fn opposite_of(s: Relation) -> Relation
 pub fn field_at(fields: &[u64], at: usize) -> Field
     ensures { result ≡ field_in (get_or fields.now at 0) }
 {
-    if at < fields.len() {
-        return field_in(fields[at]);
-    }
-    Field::Else
+    field_in(base::at(fields, at, 0))
 }
