@@ -1,8 +1,6 @@
-use Rattle.base.proofs.Cases.{cases}
+use mathlib.Core.Path.{◌∙◌}
+use Rattle.token_number.proofs.Tests.{both_tests}
 use Rattle.token_number.proofs.letters.is_small.Goals as goal
 
-pub returns-then-b-lt97 : goal.returns-then-b-lt97
-returns-then-b-lt97 c = search cases depth 16
-
 pub returns : goal.returns
-returns c = search cases depth 16
+returns c = c.is_ascii_lowercase.ensures.value ∙ both_tests _ _
