@@ -1,6 +1,6 @@
 // The kind of a token in memory and what it carries, and back: `token_kind`, `token_carried` and `token_of` of source's
 // specs/Memory.antt.
-#![tactic(auto)]
+#![tactic(auto, unfolding(base::specs::Choice::pick))]
 
 pub mod letters;
 
