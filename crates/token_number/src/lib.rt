@@ -35,6 +35,7 @@ pub fn value_of(t: Token) -> u32
 }
 
 // The token with a kind and what it carries; a mark where no token has the kind.
+#[tactic(auto, using(crate::proofs::Numbering::again))]
 pub fn token_of(k: u8, v: u32) -> Token
     ensures { result ≡ token_of k v }
 {
