@@ -3,7 +3,7 @@ use Prim.Native.Nat.{ℕ, ◌+◌, ◌-◌, ◌<◌, ◌≤◌}
 use mathlib.Core.Path.{◌≡◌, refl, sym, ap, ◌∙◌}
 use mathlib.Core.List.{map}
 use native.Mathlib.Omega.{arith}
-use lib.ListN.{get_or, take, drop, get_or-eq_default}
+use lib.ListN.{get_or, take, drop}
 use lib.Seq.{get_or-take}
 use Rattle.base.proofs.Lists.{get_d_map_inside, among}
 use Rattle.order.specs.declared.Operation.{Operation}
@@ -12,13 +12,7 @@ use Rattle.order.specs.declared.Order.{Order}
 use Rattle.order.specs.declared.Order.TheVariants.{Word, Number, Skip, Cond, Stop}
 use Rattle.order.specs.Order.{operations}
 use Rattle.order.specs.Memory.{shapes, order_of}
-use Rattle.order.proofs.Numbers.{no_order}
 use Rattle.order_number.specs.Internal.{plain_order}
-
--- no order below 12 has a number that is 12 or more
-pub no_plain_order : (k v : ℕ) → 12 ≤ k → Stop ≡ plain_order k v
-unfolding plain_order shapes
-no_plain_order k v h = ap (λ f. f v) (sym (get_or-eq_default (take 12 shapes) (λ v. Stop) {n = k} h))
 
 pub order_plain : (k v : ℕ) → k < 12 → plain_order k v ≡ order_of k v
 unfolding plain_order order_of
@@ -66,7 +60,3 @@ skip_again k v e = rw e refl
 pub cond_again : (k v : ℕ) → k ≡ 37 → Cond v ≡ order_of k v
 unfolding shapes order_of
 cond_again k v e = rw e refl
-
--- past COND there is none
-pub past_cond : (k v : ℕ) → 36 ≤ k → (k ≡ 36 → ⊥) → (k ≡ 37 → ⊥) → Stop ≡ order_of k v
-past_cond k v h f g = no_order k v (omega (arith, h, f, g))

@@ -7,6 +7,7 @@ ghost use Rattle.order.specs.Memory.{operation_number, branch_number, number, or
 ghost use Rattle.order.specs.declared.Operation.TheVariants.{Cmp};
 ghost use Rattle.order_number.specs.Internal.{plain_order};
 
+use base::put;
 use order::{Operation, Order};
 use word::Relation;
 
@@ -67,17 +68,9 @@ pub fn operand_of(o: Order) -> u32
     ensures { result ≡ operand o }
 {
     match o {
-        Order::Word(_, w) => w,
-        Order::Number(_, n) => n,
-        Order::Store(w) => w,
-        Order::Neg => 0,
-        Order::Not => 0,
-        Order::Jump(a) => a,
-        Order::Skip(a) => a,
-        Order::Branch(_, a) => a,
-        Order::Cond(n) => n,
-        Order::Send => 0,
-        Order::Stop => 0,
+        Order::Word(_, n) | Order::Number(_, n) | Order::Store(n) | Order::Cond(n) => n,
+        Order::Jump(n) | Order::Skip(n) | Order::Branch(_, n) => n,
+        Order::Neg | Order::Not | Order::Send | Order::Stop => 0,
     }
 }
 
@@ -102,6 +95,7 @@ fn operation(k: u8) -> Operation
 }
 
 // An order with a number below 12: one that is no operation with a word or a number.
+#[tactic(auto, unfolding(crate::specs::Internal::plain_order, order::specs::Memory::shapes))]
 fn plain_order(k: u8, v: u32) -> Order
     ensures { result ≡ plain_order k v }
 {
@@ -126,22 +120,14 @@ fn plain_order(k: u8, v: u32) -> Order
 pub fn order_of(k: u8, v: u32) -> Order
     ensures { result ≡ order_of k v }
 {
-    if k < 12 {
-        return plain_order(k, v);
+    match k {
+        0..=11 => plain_order(k, v),
+        12..=23 => Order::Word(operation(k - 12), v),
+        24..=35 => Order::Number(operation(k - 24), v),
+        36 => Order::Skip(v),
+        37 => Order::Cond(v),
+        _ => Order::Stop,
     }
-    if k < 24 {
-        return Order::Word(operation(k - 12), v);
-    }
-    if k < 36 {
-        return Order::Number(operation(k - 24), v);
-    }
-    if k == 36 {
-        return Order::Skip(v);
-    }
-    if k == 37 {
-        return Order::Cond(v);
-    }
-    Order::Stop
 }
 
 fn packed(k: u8, v: u32) -> u64
@@ -172,7 +158,5 @@ pub fn order_in(w: u64) -> Order
 pub fn put_order(orders: &mut [u64], i: usize, o: Order)
     ensures { orders.new ≡ set orders.old i (order_word o) }
 {
-    if i < orders.len() {
-        orders[i] = order_word(o);
-    }
+    put(orders, i, order_word(o));
 }
