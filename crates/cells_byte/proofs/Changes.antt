@@ -5,51 +5,55 @@ use mathlib.Core.Bool.{Bool, true, false}
 use mathlib.Core.List.{List, [], ◌∷◌, ◌++◌}
 use native.Mathlib.Omega.{arith}
 use borrow.Author.Tests.{ltb-true, eqb-false, ne_eqb}
+use Rattle.std.proofs.Common.{Result, Ok, Err}
 use lib.Dec.{ltb, eqb}
 use lib.ListN.{length, get_or, take}
 use Rattle.base.specs.Choice.{pick}
 use Rattle.base.proofs.Cases.{by_test, either_part}
 use Rattle.source.specs.declared.Mode.{Mode}
 use Rattle.source.specs.declared.Mode.TheVariants.{Plain, Keyword, Quoted, Comment}
+use Rattle.source.specs.declared.Refusal.{Refusal}
+use Rattle.source.specs.declared.Refusal.TheVariants.{Cells}
 use Rattle.source.specs.Limits.{most_cells}
+use Rattle.source.specs.Refusals.{refusal_number}
 use Rattle.source.specs.Cells.{capital, small, Turn, goes_on, ends, over, turn, kept, outside, exclamation, closes, ends_in_c, Statements, ended, cut}
 use Rattle.source.specs.Cells.{◌then◌, at_last, newline, source_end}
 use Rattle.cells_byte.specs.declared.Change.{Change}
-use Rattle.cells_byte.specs.declared.Change.TheVariants.{Keep, Skip, Shorten, End, Over}
-use Rattle.cells_byte.specs.declared.Ending.{Ending}
-use Rattle.cells_byte.specs.declared.Ending.TheVariants.{Whole, Nothing, Cut}
+use Rattle.cells_byte.specs.declared.Change.TheVariants.{Keep, Skip, Shorten, End}
+use Rattle.cells_byte.specs.declared.Ended.{Ended}
+use Rattle.cells_byte.specs.declared.Ended.TheVariants.{Whole, Nothing}
 use Rattle.cells_byte.specs.Internal.{is_letter, kept_of, closes_of, newline_of, exclamation_of, outside_of, change_of, ended_by, ending_outside, ending_of}
 
 -- ---- one byte
 
-abbrev pub turned : List ℕ → Change → Turn
-turned cells (Keep c m) = goes_on m (cells ++ c ∷ [])
-turned cells (Skip m) = goes_on m cells
-turned cells Shorten = goes_on Plain (take (length cells - 1) cells)
-turned cells End = ends cells
-turned cells Over = over
+abbrev pub turned : List ℕ → Result Change Refusal → Turn
+turned cells (Ok (Keep c m)) = goes_on m (cells ++ c ∷ [])
+turned cells (Ok (Skip m)) = goes_on m cells
+turned cells (Ok Shorten) = goes_on Plain (take (length cells - 1) cells)
+turned cells (Ok End) = ends cells
+turned cells (Err k) = over
 
 module _ (cells : List ℕ) where
   -- a choice between two changes
-  either_turned : (t : Bool) (a b : Change) (x y : Turn) → turned cells a ≡ x → turned cells b ≡ y → turned cells (pick t a b) ≡ pick t x y
+  either_turned : (t : Bool) (a b : Result Change Refusal) (x y : Turn) → turned cells a ≡ x → turned cells b ≡ y → turned cells (pick t a b) ≡ pick t x y
   unfolding pick
   either_turned true a b x y p q = p
   either_turned false a b x y p q = q
 
   kept_turned : (c : ℕ) (m : Mode) → turned cells (kept_of c m (length cells)) ≡ kept c m cells
-  kept_turned c m = either_turned (ltb (length cells) most_cells) (Keep c m) Over _ _ refl refl
+  kept_turned c m = either_turned (ltb (length cells) most_cells) (Ok (Keep c m)) (Err Cells) _ _ refl refl
 
   exclamation_turned : turned cells (exclamation_of (length cells)) ≡ exclamation cells
-  exclamation_turned = either_turned (eqb (length cells) 0) (Skip Comment) _ _ _ refl (kept_turned 33 Plain)
+  exclamation_turned = either_turned (eqb (length cells) 0) (Ok (Skip Comment)) _ _ _ refl (kept_turned 33 Plain)
 
-  semicolon : turned cells (closes_of 0) ≡ ends cells
+  semicolon : turned cells (Ok (closes_of 0)) ≡ ends cells
   unfolding pick
   semicolon = refl
 
   semicolon_turned : turned cells (newline_of (length cells) 0) ≡ closes cells
   semicolon_turned =
-      either_turned (eqb (length cells) 0) (Skip Plain) _ _ _ refl
-      (either_turned (ltb (length cells) most_cells) (closes_of 0) Over _ _ semicolon refl)
+      either_turned (eqb (length cells) 0) (Ok (Skip Plain)) _ _ _ refl
+      (either_turned (ltb (length cells) most_cells) (Ok (closes_of 0)) (Err Cells) _ _ semicolon refl)
 
 -- no C is held where nothing is
 newline_turned : (cells : List ℕ) → turned cells (newline_of (length cells) (get_or cells (length cells - 1) 0)) ≡ newline cells
@@ -60,7 +64,7 @@ newline_turned (x ∷ xs) =
     (both (eqb (get_or (x ∷ xs) (suc (length xs) - 1) 0) 99) (ltb (suc (length xs)) most_cells))
   where
     both : (c room : Bool)
-        → turned (x ∷ xs) (pick room (pick c Shorten End) Over)
+        → turned (x ∷ xs) (pick room (Ok (pick c Shorten End)) (Err Cells))
         ≡ pick c (pick room (goes_on Plain (take (suc (length xs) - 1) (x ∷ xs))) over) (pick room (ends (x ∷ xs)) over)
     both true true = unfold pick in refl
     both true false = unfold pick in refl
@@ -93,29 +97,29 @@ module _ (cells : List ℕ) where
   changed Comment b = refl
 
 -- the numbers of cells at which a change comes about
-abbrev pub Fits : ℕ → Change → Type 0
-Fits held (Keep c m) = held < most_cells
-Fits held (Skip m) = Unit {0}
-Fits held Shorten = 0 < held
-Fits held End = (0 < held) × (held < most_cells)
-Fits held Over = Unit {0}
+abbrev pub Fits : ℕ → Result Change Refusal → Type 0
+Fits held (Ok (Keep c m)) = held < most_cells
+Fits held (Ok (Skip m)) = Unit {0}
+Fits held (Ok Shorten) = 0 < held
+Fits held (Ok End) = (0 < held) × (held < most_cells)
+Fits held (Err k) = Unit {0}
 
 module _ (held : ℕ) where
   kept_fits : (c : ℕ) (m : Mode) → Fits held (kept_of c m held)
-  kept_fits c m = either_part (Fits held) (ltb held most_cells) (Keep c m) Over (λ e. ltb-true held most_cells e) (λ e. tt)
+  kept_fits c m = either_part (Fits held) (ltb held most_cells) (Ok (Keep c m)) (Err Cells) (λ e. ltb-true held most_cells e) (λ e. tt)
 
   newline_fits : (last : ℕ) → Fits held (newline_of held last)
   newline_fits last =
-      either_part (Fits held) (eqb held 0) (Skip Plain) _ (λ e. tt) (λ z.
-      either_part (Fits held) (ltb held most_cells) _ Over (λ l.
-      either_part (Fits held) (eqb last 99) Shorten End
+      either_part (Fits held) (eqb held 0) (Ok (Skip Plain)) _ (λ e. tt) (λ z.
+      either_part (Fits held) (ltb held most_cells) _ (Err Cells) (λ l.
+      either_part (λ ch. Fits held (Ok ch)) (eqb last 99) Shorten End
       (λ e. omega (arith, eqb-false held 0 z))
       (λ e. (omega (arith, eqb-false held 0 z), ltb-true held most_cells l)))
       (λ e. tt))
 
   exclamation_fits : Fits held (exclamation_of held)
   exclamation_fits =
-      either_part (Fits held) (eqb held 0) (Skip Comment) (kept_of 33 Plain held) (λ e. tt) (λ e. kept_fits 33 Plain)
+      either_part (Fits held) (eqb held 0) (Ok (Skip Comment)) (kept_of 33 Plain held) (λ e. tt) (λ e. kept_fits 33 Plain)
 
   outside_fits : (c : ℕ) (m : Mode) (b last : ℕ) → Fits held (outside_of c m b held last)
   unfolding outside_of
@@ -138,10 +142,10 @@ module _ (held : ℕ) where
 
 -- ---- the end of the source
 
-abbrev pub closed : List ℕ → Ending → Statements
-closed cells Whole = cells then ended
-closed cells Nothing = ended
-closed cells (Cut n) = cut n
+abbrev pub closed : List ℕ → Result Ended Refusal → Statements
+closed cells (Ok Whole) = cells then ended
+closed cells (Ok Nothing) = ended
+closed cells (Err k) = cut (refusal_number k)
 
 end_closed : (cells : List ℕ) → closed cells (ending_outside (length cells) (get_or cells (length cells - 1) 0))
     ≡ pick (ends_in_c cells) (cut 3) (at_last (newline cells))
@@ -163,18 +167,18 @@ module _ (cells : List ℕ) where
   source_ended Quoted = refl
   source_ended Comment = refl
 
-abbrev pub EndFits : ℕ → Ending → Type 0
-EndFits held Whole = (0 < held) × (held < most_cells)
-EndFits held Nothing = Unit {0}
-EndFits held (Cut n) = Unit {0}
+abbrev pub EndFits : ℕ → Result Ended Refusal → Type 0
+EndFits held (Ok Whole) = (0 < held) × (held < most_cells)
+EndFits held (Ok Nothing) = Unit {0}
+EndFits held (Err k) = Unit {0}
 
 module _ (held last : ℕ) where
-  ended_fits : (ch : Change) → Fits held ch → EndFits held (ended_by last ch)
-  ended_fits (Keep c m) f = tt
-  ended_fits (Skip m) f = tt
-  ended_fits Shorten f = tt
-  ended_fits End f = f
-  ended_fits Over f = either_part (EndFits held) (eqb last 99) (Cut 3) (Cut 4) (λ e. tt) (λ e. tt)
+  ended_fits : (ch : Result Change Refusal) → Fits held ch → EndFits held (ended_by last ch)
+  ended_fits (Ok (Keep c m)) f = tt
+  ended_fits (Ok (Skip m)) f = tt
+  ended_fits (Ok Shorten) f = tt
+  ended_fits (Ok End) f = f
+  ended_fits (Err k) f = tt
 
   pub end_fits : (m : Mode) → EndFits held (ending_of m held last)
   unfolding ending_of

@@ -1,61 +1,29 @@
 // What a byte does, and what the end of the source does, to the cells of the statement that is being read. `held` is the
 // number of cells held, and `last` the last of them, or 0. Comments in quotes are document 01's words.
-#![tactic(auto)]
+#![tactic(auto, unfolding(base::specs::Choice::pick, crate::specs::Internal::outside_of, crate::specs::Internal::change_of, crate::specs::Internal::ending_of))]
 
 ghost use Rattle.std.specs.Prelude.{◌≡◌, ltb};
 ghost use Rattle.source.specs.Limits.{most_cells};
-ghost use Rattle.source.specs.Cells.{capital, small, behind_comment};
-ghost use Rattle.cells_byte.specs.Internal.{is_letter, kept_of, closes_of, newline_of, exclamation_of, outside_of, quoted_of, change_of, over_at_end};
+ghost use Rattle.source.specs.Cells.{behind_comment};
+ghost use Rattle.cells_byte.specs.Internal.{kept_of, closes_of, newline_of, exclamation_of, outside_of, quoted_of, change_of, over_at_end};
 ghost use Rattle.cells_byte.specs.Internal.{ending_outside, ending_of};
 
-use source::{MOST_CELLS, Mode};
-use token_number::letters::{is_capital, is_small};
+use source::{MOST_CELLS, Mode, Refusal};
 
-// One cell more and the mode behind it, none, or one less; the end of the statement; or a cell too many.
+// One cell more and the mode behind it, none, or one less; or the end of the statement.
 #[derive(Clone, Copy)]
 pub enum Change {
     Keep(u8, Mode),
     Skip(Mode),
     Shorten,
     End,
-    Over,
 }
 
-// The cells held are a statement, there are none, or they are refused with a number.
+// At the end of the source the cells held are a statement, or there are none.
 #[derive(Clone, Copy)]
-pub enum Ending {
+pub enum Ended {
     Whole,
     Nothing,
-    Cut(u32),
-}
-
-fn is_letter(b: u8) -> bool
-    ensures { result ≡ is_letter b }
-{
-    if is_capital(b) {
-        return true;
-    }
-    is_small(b)
-}
-
-// "a to z become capitals"
-fn capital(b: u8) -> u8
-    ensures { result ≡ capital b }
-{
-    if is_small(b) {
-        return b - 32;
-    }
-    b
-}
-
-// A keyword letter is kept as a small letter.
-fn small(b: u8) -> u8
-    ensures { result ≡ small b }
-{
-    if is_capital(b) {
-        return b + 32;
-    }
-    b
 }
 
 // "A statement may hold 256 cells at any moment": whether one more is not too many.
@@ -65,143 +33,130 @@ fn has_room(held: usize) -> bool
     held < MOST_CELLS
 }
 
-fn kept(c: u8, m: Mode, held: usize) -> Change
+fn kept(c: u8, m: Mode, held: usize) -> Result<Change, Refusal>
     ensures { result ≡ kept_of c m held }
 {
     if has_room(held) {
-        return Change::Keep(c, m);
+        Ok(Change::Keep(c, m))
+    } else {
+        Err(Refusal::Cells)
     }
-    Change::Over
 }
 
 // "A newline outside quotes, when the last cell held is a keyword letter C, is dropped with that C". The newline, like any
 // end mark, is a cell until then. "a statement of nothing is skipped"
-fn newline(held: usize, last: u8) -> Change
+fn newline(held: usize, last: u8) -> Result<Change, Refusal>
     ensures { result ≡ newline_of held last }
 {
-    if held != 0 {
-        if has_room(held) {
-            return closes(last);
-        }
-        return Change::Over;
+    if held == 0 {
+        Ok(Change::Skip(Mode::Plain))
+    } else if has_room(held) {
+        Ok(closes(last))
+    } else {
+        Err(Refusal::Cells)
     }
-    Change::Skip(Mode::Plain)
 }
 
+// Keyword letters are small in cells.
 fn closes(last: u8) -> Change
     ensures { result ≡ closes_of last }
 {
-    if last == 99 {
-        return Change::Shorten;
+    if last == b'c' {
+        Change::Shorten
+    } else {
+        Change::End
     }
-    Change::End
 }
 
 // "`!` where no cell of the statement is held yet starts a comment"
-fn exclamation(held: usize) -> Change
+fn exclamation(held: usize) -> Result<Change, Refusal>
     ensures { result ≡ exclamation_of held }
 {
-    if held == 0 {
-        return Change::Skip(Mode::Comment);
+    match held {
+        0 => Ok(Change::Skip(Mode::Comment)),
+        _ => kept(b'!', Mode::Plain, held),
     }
-    kept(33, Mode::Plain, held)
 }
 
 // A byte outside quotes and comments, where a letter is kept as the cell c and then read on in mode m. `;` is a newline that
 // stands behind no C.
-fn outside(c: u8, m: Mode, b: u8, held: usize, last: u8) -> Change
+fn outside(c: u8, m: Mode, b: u8, held: usize, last: u8) -> Result<Change, Refusal>
     ensures { result ≡ outside_of c m b held last }
 {
-    if is_letter(b) {
-        return kept(c, m, held);
+    match b {
+        b'A'..=b'Z' | b'a'..=b'z' => kept(c, m, held),
+        b' ' => Ok(Change::Skip(Mode::Plain)),
+        b'\n' => newline(held, last),
+        b'%' => Ok(Change::Skip(Mode::Keyword)),
+        b'\'' => kept(b, Mode::Quoted, held),
+        b';' => newline(held, 0),
+        b'!' => exclamation(held),
+        _ => kept(b, Mode::Plain, held),
     }
-    if b == 32 {
-        return Change::Skip(Mode::Plain);
-    }
-    if b == 10 {
-        return newline(held, last);
-    }
-    if b == 37 {
-        return Change::Skip(Mode::Keyword);
-    }
-    if b == 39 {
-        return kept(b, Mode::Quoted, held);
-    }
-    if b == 59 {
-        return newline(held, 0);
-    }
-    if b == 33 {
-        return exclamation(held);
-    }
-    kept(b, Mode::Plain, held)
 }
 
 // "Text between quotes stays as typed"
-fn quoted(b: u8, held: usize) -> Change
+fn quoted(b: u8, held: usize) -> Result<Change, Refusal>
     ensures { result ≡ quoted_of b held }
 {
-    if b == 39 {
-        return kept(b, Mode::Plain, held);
+    match b {
+        b'\'' => kept(b, Mode::Plain, held),
+        _ => kept(b, Mode::Quoted, held),
     }
-    kept(b, Mode::Quoted, held)
 }
 
 // A comment "swallows all through the next `;` or newline".
 fn behind_comment(b: u8) -> Mode
     ensures { result ≡ behind_comment b }
 {
-    if b == 59 {
-        return Mode::Plain;
+    match b {
+        b';' | b'\n' => Mode::Plain,
+        _ => Mode::Comment,
     }
-    if b == 10 {
-        return Mode::Plain;
-    }
-    Mode::Comment
 }
 
-// What a byte does.
-pub fn change_by(mode: Mode, b: u8, held: usize, last: u8) -> Change
+// What a byte does, or the refusal of a cell too many. "a to z become capitals", and a keyword letter is kept as a small letter.
+pub fn change_by(mode: Mode, b: u8, held: usize, last: u8) -> Result<Change, Refusal>
     ensures { result ≡ change_of mode b held last }
 {
     match mode {
-        Mode::Plain => outside(capital(b), Mode::Plain, b, held, last),
-        Mode::Keyword => outside(small(b), Mode::Keyword, b, held, last),
+        Mode::Plain => outside(b.to_ascii_uppercase(), Mode::Plain, b, held, last),
+        Mode::Keyword => outside(b.to_ascii_lowercase(), Mode::Keyword, b, held, last),
         Mode::Quoted => quoted(b, held),
-        Mode::Comment => Change::Skip(behind_comment(b)),
+        Mode::Comment => Ok(Change::Skip(behind_comment(b))),
     }
 }
 
 // "3 if the source's end meets both"
-fn over_at_end(last: u8) -> Ending
+fn over_at_end(last: u8) -> Refusal
     ensures { result ≡ over_at_end last }
 {
-    if last == 99 {
-        return Ending::Cut(3);
+    if last == b'c' {
+        Refusal::Quotes
+    } else {
+        Refusal::Cells
     }
-    Ending::Cut(4)
 }
 
 // "The end of the source counts as one newline."
-fn end_outside(held: usize, last: u8) -> Ending
+fn end_outside(held: usize, last: u8) -> Result<Ended, Refusal>
     ensures { result ≡ ending_outside held last }
 {
     match newline(held, last) {
-        Change::Keep(_, _) => Ending::Nothing,
-        Change::Skip(_) => Ending::Nothing,
-        Change::Shorten => Ending::Cut(3),
-        Change::End => Ending::Whole,
-        Change::Over => over_at_end(last),
+        Ok(Change::Keep(_, _) | Change::Skip(_)) => Ok(Ended::Nothing),
+        Ok(Change::Shorten) => Err(Refusal::Quotes),
+        Ok(Change::End) => Ok(Ended::Whole),
+        Err(_) => Err(over_at_end(last)),
     }
 }
 
 // "source ends in quotes"
-pub fn at_end(mode: Mode, held: usize, last: u8) -> Ending
+pub fn at_end(mode: Mode, held: usize, last: u8) -> Result<Ended, Refusal>
     ensures { result ≡ ending_of mode held last }
 {
     match mode {
-        Mode::Plain => end_outside(held, last),
-        Mode::Keyword => end_outside(held, last),
-        Mode::Quoted => Ending::Cut(3),
-        Mode::Comment => Ending::Nothing,
+        Mode::Plain | Mode::Keyword => end_outside(held, last),
+        Mode::Quoted => Err(Refusal::Quotes),
+        Mode::Comment => Ok(Ended::Nothing),
     }
 }

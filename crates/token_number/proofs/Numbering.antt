@@ -14,10 +14,10 @@ use Rattle.source.specs.declared.Token.{Token}
 use Rattle.source.specs.declared.Token.TheVariants.{Name, Number, Quoted, Binary, Compare, Mark}
 use Rattle.source.specs.Memory.{token_kind, token_carried, numbered_tokens, token_shapes, token_of}
 
-pub last_numbered : (k v : ℕ) → 3 ≤ k → Mark v ≡ get_or numbered_tokens k Mark v
+last_numbered : (k v : ℕ) → 3 ≤ k → Mark v ≡ get_or numbered_tokens k Mark v
 last_numbered k v h = ap (λ f. f v) (last_of_law (take 3 numbered_tokens) Mark k h)
 
-pub numbered_again : (k v : ℕ) → k < 4 → get_or numbered_tokens k Mark v ≡ token_of k v
+numbered_again : (k v : ℕ) → k < 4 → get_or numbered_tokens k Mark v ≡ token_of k v
 unfolding token_shapes token_of
 numbered_again k v h = ap (λ f. f v) (sym (get_or-append numbered_tokens (drop 4 token_shapes) Mark k h))
 
@@ -39,6 +39,18 @@ compare_token k v h =
     (get_or-append-add (take 14 token_shapes) (map (λ r v. Compare r) relations) k Mark
     ∙ get_d_map_inside (λ r v. Compare r) relations k Mark AtLeast h))
 
+pub name_token : (k v : ℕ) → k ≡ 0 → Name v ≡ token_of k v
+name_token k v e = rw e (numbered_again 0 v (omega arith))
+
+pub decimal_token : (k v : ℕ) → k ≡ 1 → Number v ≡ token_of k v
+decimal_token k v e = rw e (numbered_again 1 v (omega arith))
+
+pub quoted_token : (k v : ℕ) → k ≡ 2 → Quoted v ≡ token_of k v
+quoted_token k v e = rw e (numbered_again 2 v (omega arith))
+
+pub last_token : (k v : ℕ) → 3 ≤ k → k < 4 → Mark v ≡ token_of k v
+last_token k v g h = last_numbered k v g ∙ numbered_again k v h
+
 -- the same with the token's own kind
 own : (n k v : ℕ) → n ≤ k → token_of (n + (k - n)) v ≡ token_of k v
 own n k v h = let e : n + (k - n) ≡ k = omega (arith, h) in ap (λ j. token_of j v) e
@@ -52,6 +64,9 @@ compare_again k v g h = compare_token (k - 14) v (omega arith) ∙ own 14 k v g
 pub no_token : (k v : ℕ) → 20 ≤ k → Mark v ≡ token_of k v
 unfolding token_shapes token_of
 no_token k v h = ap (λ f. f v) (sym (get_or-eq_default token_shapes Mark {n = k} h))
+
+-- the token of a kind, where it is read by tests on the kind
+pub ruleset again = (name_token, decimal_token, quoted_token, last_token, binary_again, compare_again, no_token)
 
 -- a token stored by its kind and what it carries is read back
 pub token_again : (t : Token) → token_of (token_kind t) (token_carried t) ≡ t

@@ -5,17 +5,11 @@ ghost use Rattle.source.specs.Cells.{is_capital, is_small};
 pub fn is_capital(b: u8) -> bool
     ensures { result ≡ is_capital b }
 {
-    if b < 65 {
-        return false;
-    }
-    b <= 90
+    b.is_ascii_uppercase()
 }
 
 pub fn is_small(b: u8) -> bool
     ensures { result ≡ is_small b }
 {
-    if b < 97 {
-        return false;
-    }
-    b <= 122
+    b.is_ascii_lowercase()
 }

@@ -1,12 +1,11 @@
 // The kind of a token in memory and what it carries, and back: `token_kind`, `token_carried` and `token_of` of source's
 // specs/Memory.antt.
-#![tactic(auto)]
+#![tactic(auto, unfolding(base::specs::Choice::pick))]
 
 pub mod letters;
 
 ghost use Rattle.std.specs.Prelude.{◌≡◌, get_or};
-ghost use Rattle.source.specs.declared.Token.TheVariants.{Mark};
-ghost use Rattle.source.specs.Memory.{token_kind, token_carried, numbered_tokens, token_of};
+ghost use Rattle.source.specs.Memory.{token_kind, token_carried, token_of};
 
 use sheet_field::{operator, operator_number, relation, relation_number};
 use source::Token;
@@ -30,48 +29,29 @@ pub fn value_of(t: Token) -> u32
     ensures { result ≡ token_carried t }
 {
     match t {
-        Token::Name(w) => w,
-        Token::Number(n) => n,
-        Token::Quoted(n) => n,
-        Token::Binary(_) => 0,
-        Token::Compare(_) => 0,
-        Token::Mark(m) => m,
+        Token::Name(v) | Token::Number(v) | Token::Quoted(v) | Token::Mark(v) => v,
+        Token::Binary(_) | Token::Compare(_) => 0,
     }
 }
 
-// The token with a kind below 4, which carries the number v; a mark for any other.
-fn numbered_token(k: u8, v: u32) -> Token
-    ensures { result ≡ get_or numbered_tokens k Mark v }
+// The token with a kind and what it carries; a mark where no token has the kind.
+#[tactic(auto, using(crate::proofs::Numbering::again))]
+pub fn token_of(k: u8, v: u32) -> Token
+    ensures { result ≡ token_of k v }
 {
     match k {
         0 => Token::Name(v),
         1 => Token::Number(v),
         2 => Token::Quoted(v),
+        4..=13 => Token::Binary(operator(k - 4)),
+        14..=19 => Token::Compare(relation(k - 14)),
         _ => Token::Mark(v),
     }
-}
-
-// The token with a kind and what it carries; a mark where no token has the kind.
-pub fn token_of(k: u8, v: u32) -> Token
-    ensures { result ≡ token_of k v }
-{
-    if k < 4 {
-        return numbered_token(k, v);
-    }
-    if k < 14 {
-        return Token::Binary(operator(k - 4));
-    }
-    if k < 20 {
-        return Token::Compare(relation(k - 14));
-    }
-    Token::Mark(v)
 }
 
 // The token at a place of two arrays.
 pub fn token_at(kinds: &[u8], values: &[u32], at: usize) -> Token
     ensures { result ≡ token_of (get_or kinds.now at 0) (get_or values.now at 0) }
 {
-    let k = base::byte_at(kinds, at);
-    let v = base::word_at(values, at);
-    token_of(k, v)
+    token_of(base::at(kinds, at, 0), base::at(values, at, 0))
 }
