@@ -1,24 +1,19 @@
 -- The tokens that are left at a place of two arrays, and what is found there.
 use Prim.Native.Nat.{ℕ, suc, ◌+◌, ◌-◌, ◌<◌, ◌≤◌}
-use mathlib.Core.Path.{◌≡◌, refl}
+use mathlib.Core.Path.{◌≡◌, refl, ap₂}
+use mathlib.Core.Bool.{true, false}
 use mathlib.Core.List.{List, [], ◌∷◌}
 use native.Mathlib.Omega.{arith}
 use native.Mathlib.Numerals.{add-one}
 use lib.ListN.{length, get_or}
-use Rattle.source.specs.Grammar.{behind_first}
+use Rattle.std.specs.Prelude.{None, Some}
+use Rattle.base.specs.Choice.{pick}
+use Rattle.source.specs.declared.Token.{Token}
+use Rattle.source.specs.Tokens.{mark_colon}
+use Rattle.source.specs.Grammar.{opens, behind_first}
 use Rattle.source.specs.Memory.{token_of, tokens_from}
 use Rattle.source.proofs.Stored.{tokens_length, tokens_more, tokens_over}
-use Rattle.grammar_look.specs.declared.Operand.{Operand}
-use Rattle.grammar_look.specs.declared.Operand.TheVariants.{Plain, Open, Missing as NoOperand}
-use Rattle.grammar_look.specs.declared.Lead.{Lead}
-use Rattle.grammar_look.specs.declared.Lead.TheVariants.{Plus, Minus, Invert, Missing as NoLead}
-use Rattle.grammar_look.specs.declared.Link.{Link}
-use Rattle.grammar_look.specs.declared.Link.TheVariants.{By as LinkBy, Missing as NoLink}
-use Rattle.grammar_look.specs.declared.Related.{Related}
-use Rattle.grammar_look.specs.declared.Related.TheVariants.{By as RelatedBy, Missing as NoRelation}
-use Rattle.grammar_look.specs.declared.Opening.{Opening}
-use Rattle.grammar_look.specs.declared.Opening.TheVariants.{Set, Send, Goto, Missing as NoOpening}
-use Rattle.grammar_look.specs.Internal.{left, operand_inside, lead_inside, link_inside, relation_inside, opening_inside}
+use Rattle.grammar_look.specs.Internal.{left, first, opening_of, first_opening, first_number, first_label}
 
 pub left_length : (ks vs : List ℕ) (n at : ℕ) → length (left n at ks vs) ≡ n - at
 left_length ks vs n at = tokens_length at (n - at) ks vs
@@ -49,28 +44,32 @@ module _ (ks vs : List ℕ) (n at : ℕ) where
   unfolding tokens_from
   left_one h one = rw one refl
 
-module _ (n at : ℕ) (h : at < n) where
-  pub operand_inside_law : (x : Operand) → operand_inside n at x
-  operand_inside_law (Plain f) = h
-  operand_inside_law Open = h
-  operand_inside_law NoOperand = tt
+-- what two tokens open
+pub opening_two : (l : List Token) (t u : Token) → first l ≡ Some t → first (behind_first l) ≡ Some u → first_opening l ≡ opening_of t u
+unfolding behind_first
+opening_two [] t u e f = let z : ◌≡◌ {A = ℕ} 0 1 = cc in absurd (omega arith)
+opening_two (a ∷ []) t u e f = let z : ◌≡◌ {A = ℕ} 0 1 = cc in absurd (omega arith)
+opening_two (a ∷ b ∷ ts) t u e f =
+    let one : a ≡ t = cc in
+    let two : b ≡ u = cc in
+    ap₂ opening_of one two
 
-  pub lead_inside_law : (x : Lead) → lead_inside n at x
-  lead_inside_law Plus = h
-  lead_inside_law Minus = h
-  lead_inside_law Invert = h
-  lead_inside_law NoLead = tt
+-- one token, or none, opens nothing
+pub opening_none : (l : List Token) → first (behind_first l) ≡ None → first_opening l ≡ None
+unfolding behind_first
+opening_none [] f = refl
+opening_none (a ∷ []) f = refl
+opening_none (a ∷ b ∷ ts) f = let z : ◌≡◌ {A = ℕ} 0 1 = cc in absurd (omega arith)
 
-  pub link_inside_law : (x : Link) → link_inside n at x
-  link_inside_law (LinkBy o) = h
-  link_inside_law NoLink = tt
+-- a label is a number, and a colon behind it
+pub number_then : (l : List Token) → first_number l ≡ true → first_label l ≡ opens mark_colon (behind_first l)
+unfolding behind_first opens pick
+number_then [] e = let z : ◌≡◌ {A = ℕ} 0 1 = cc in absurd (omega arith)
+number_then (t ∷ []) e = refl
+number_then (t ∷ u ∷ ts) e = rw e refl
 
-  pub relation_inside_law : (x : Related) → relation_inside n at x
-  relation_inside_law (RelatedBy r) = h
-  relation_inside_law NoRelation = tt
-
-pub opening_inside_law : (n at : ℕ) → at + 1 < n → (x : Opening) → opening_inside n at x
-opening_inside_law n at h (Set w) = h
-opening_inside_law n at h Send = h
-opening_inside_law n at h (Goto l) = h
-opening_inside_law n at h NoOpening = tt
+pub no_number : (l : List Token) → first_number l ≡ false → first_label l ≡ false
+unfolding pick
+no_number [] e = refl
+no_number (t ∷ []) e = refl
+no_number (t ∷ u ∷ ts) e = rw e refl

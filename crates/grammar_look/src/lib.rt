@@ -1,9 +1,9 @@
-// What the tokens at a place of the first n of two arrays are to the grammar. Behind the last of them nothing is found.
+// The tokens of a statement, and what stands at a place of them to the grammar. Behind the last of them nothing is found.
 #![tactic(auto)]
 
-ghost use Rattle.std.specs.Prelude.{true, ◌≡◌, ◌+◌, ◌<◌};
+ghost use Rattle.std.specs.Prelude.{true, ◌≡◌, ◌+◌, ◌<◌, OnSome};
 ghost use Rattle.source.specs.Grammar.{is_mark, opens, is_equal, is_name};
-ghost use Rattle.grammar_look.specs.Internal.{left, operand_of, first_operand, operand_inside, lead_of, first_lead, lead_inside, link_of, first_link, link_inside, relation_of, first_relation, relation_inside, behind_name, behind_arrow, opening_of, first_opening, opening_inside, is_number, first_name, first_label};
+ghost use Rattle.grammar_look.specs.Internal.{ahead, first, operand_of, first_operand, lead_of, first_lead, link_of, first_link, relation_of, first_relation, behind_name, behind_arrow, opening_of, first_opening, is_number, first_name, first_number, first_label};
 
 use sheet::{Field, Operator};
 use source::Token;
@@ -14,12 +14,19 @@ use word::Relation;
 // The word that the name SEND has.
 const WORD_SEND: u32 = 1;
 
+// The first `count` tokens that two arrays hold: the kinds, and what each carries.
+#[derive(Clone, Copy)]
+pub struct Tokens<'a> {
+    pub kinds: &'a [u8],
+    pub values: &'a [u32],
+    pub count: usize,
+}
+
 // An operand: a field of its own, or an opening bracket.
 #[derive(Clone, Copy)]
 pub enum Operand {
     Plain(Field),
     Open,
-    Missing,
 }
 
 // What an expression begins with.
@@ -28,20 +35,6 @@ pub enum Lead {
     Plus,
     Minus,
     Invert,
-    Missing,
-}
-
-// An operator between two operands.
-#[derive(Clone, Copy)]
-pub enum Link {
-    By(Operator),
-    Missing,
-}
-
-#[derive(Clone, Copy)]
-pub enum Related {
-    By(Relation),
-    Missing,
 }
 
 // The first two tokens of an instruction that can be part of an IF.
@@ -50,287 +43,178 @@ pub enum Opening {
     Set(u32),
     Send,
     Goto(u32),
-    Missing,
 }
 
 fn is_mark(t: Token, m: u32) -> bool
     ensures { result ≡ is_mark m t }
 {
-    match t {
-        Token::Name(_) => false,
-        Token::Number(_) => false,
-        Token::Quoted(_) => false,
-        Token::Binary(_) => false,
-        Token::Compare(_) => false,
-        Token::Mark(k) => k == m,
-    }
-}
-
-// Whether a mark stands at a place.
-pub fn mark_at(kinds: &[u8], values: &[u32], n: usize, at: usize, m: u32) -> bool
-    ensures found { result ≡ opens m (left n at kinds.now values.now) }
-    ensures inside { result ≡ true → at < n }
-{
-    if at < n {
-        return is_mark(token_at(kinds, values, at), m);
-    }
-    false
-}
-
-fn operand_of(t: Token) -> Operand
-    ensures { result ≡ operand_of t }
-{
-    match t {
-        Token::Name(w) => Operand::Plain(Field::Word(w)),
-        Token::Number(v) => Operand::Plain(Field::Constant(v)),
-        Token::Quoted(v) => Operand::Plain(Field::Constant(v)),
-        Token::Binary(_) => Operand::Missing,
-        Token::Compare(_) => Operand::Missing,
-        Token::Mark(m) => {
-            if m == MARK_OPEN {
-                return Operand::Open;
-            }
-            Operand::Missing
-        }
-    }
-}
-
-pub fn operand_at(kinds: &[u8], values: &[u32], n: usize, at: usize) -> Operand
-    ensures found { result ≡ first_operand (left n at kinds.now values.now) }
-    ensures inside { operand_inside n at result }
-{
-    if at < n {
-        return operand_of(token_at(kinds, values, at));
-    }
-    Operand::Missing
-}
-
-fn operator_lead(o: Operator) -> Lead
-    ensures { result ≡ lead_of (Token.Binary o) }
-{
-    match o {
-        Operator::Plus => Lead::Plus,
-        Operator::Minus => Lead::Minus,
-        Operator::Times => Lead::Missing,
-        Operator::Over => Lead::Missing,
-        Operator::Power => Lead::Missing,
-        Operator::Left => Lead::Missing,
-        Operator::Right => Lead::Missing,
-        Operator::And => Lead::Missing,
-        Operator::Or => Lead::Missing,
-        Operator::Unlike => Lead::Missing,
-    }
-}
-
-fn lead_of(t: Token) -> Lead
-    ensures { result ≡ lead_of t }
-{
-    match t {
-        Token::Name(_) => Lead::Missing,
-        Token::Number(_) => Lead::Missing,
-        Token::Quoted(_) => Lead::Missing,
-        Token::Binary(o) => operator_lead(o),
-        Token::Compare(_) => Lead::Missing,
-        Token::Mark(m) => {
-            if m == MARK_INVERT {
-                return Lead::Invert;
-            }
-            Lead::Missing
-        }
-    }
-}
-
-pub fn lead_at(kinds: &[u8], values: &[u32], n: usize, at: usize) -> Lead
-    ensures found { result ≡ first_lead (left n at kinds.now values.now) }
-    ensures inside { lead_inside n at result }
-{
-    if at < n {
-        return lead_of(token_at(kinds, values, at));
-    }
-    Lead::Missing
-}
-
-fn link_of(t: Token) -> Link
-    ensures { result ≡ link_of t }
-{
-    match t {
-        Token::Name(_) => Link::Missing,
-        Token::Number(_) => Link::Missing,
-        Token::Quoted(_) => Link::Missing,
-        Token::Binary(o) => Link::By(o),
-        Token::Compare(_) => Link::Missing,
-        Token::Mark(_) => Link::Missing,
-    }
-}
-
-pub fn link_at(kinds: &[u8], values: &[u32], n: usize, at: usize) -> Link
-    ensures found { result ≡ first_link (left n at kinds.now values.now) }
-    ensures inside { link_inside n at result }
-{
-    if at < n {
-        return link_of(token_at(kinds, values, at));
-    }
-    Link::Missing
-}
-
-fn relation_of(t: Token) -> Related
-    ensures { result ≡ relation_of t }
-{
-    match t {
-        Token::Name(_) => Related::Missing,
-        Token::Number(_) => Related::Missing,
-        Token::Quoted(_) => Related::Missing,
-        Token::Binary(_) => Related::Missing,
-        Token::Compare(s) => Related::By(s),
-        Token::Mark(_) => Related::Missing,
-    }
-}
-
-pub fn relation_at(kinds: &[u8], values: &[u32], n: usize, at: usize) -> Related
-    ensures found { result ≡ first_relation (left n at kinds.now values.now) }
-    ensures inside { relation_inside n at result }
-{
-    if at < n {
-        return relation_of(token_at(kinds, values, at));
-    }
-    Related::Missing
-}
-
-fn is_equal(s: Relation) -> bool
-    ensures { result ≡ is_equal s }
-{
-    match s {
-        Relation::Equal => true,
-        Relation::Unequal => false,
-        Relation::Less => false,
-        Relation::AtMost => false,
-        Relation::Greater => false,
-        Relation::AtLeast => false,
-    }
-}
-
-// What a name w and the token behind it open.
-fn behind_name(w: u32, t: Token) -> Opening
-    ensures { result ≡ behind_name w t }
-{
-    match t {
-        Token::Name(_) => Opening::Missing,
-        Token::Number(_) => Opening::Missing,
-        Token::Quoted(_) => Opening::Missing,
-        Token::Binary(_) => Opening::Missing,
-        Token::Compare(s) => {
-            if is_equal(s) {
-                return Opening::Set(w);
-            }
-            Opening::Missing
-        }
-        Token::Mark(m) => {
-            if m != MARK_OPEN {
-                return Opening::Missing;
-            }
-            if w == WORD_SEND {
-                return Opening::Send;
-            }
-            Opening::Missing
-        }
-    }
-}
-
-fn behind_arrow(t: Token) -> Opening
-    ensures { result ≡ behind_arrow t }
-{
-    match t {
-        Token::Name(_) => Opening::Missing,
-        Token::Number(l) => Opening::Goto(l),
-        Token::Quoted(_) => Opening::Missing,
-        Token::Binary(_) => Opening::Missing,
-        Token::Compare(_) => Opening::Missing,
-        Token::Mark(_) => Opening::Missing,
-    }
-}
-
-fn opening_of(t: Token, u: Token) -> Opening
-    ensures { result ≡ opening_of t u }
-{
-    match t {
-        Token::Name(w) => behind_name(w, u),
-        Token::Number(_) => Opening::Missing,
-        Token::Quoted(_) => Opening::Missing,
-        Token::Binary(_) => Opening::Missing,
-        Token::Compare(_) => Opening::Missing,
-        Token::Mark(m) => {
-            if m == MARK_ARROW {
-                return behind_arrow(u);
-            }
-            Opening::Missing
-        }
-    }
-}
-
-pub fn opening_at(kinds: &[u8], values: &[u32], n: usize, at: usize) -> Opening
-    ensures found { result ≡ first_opening (left n at kinds.now values.now) }
-    ensures inside { opening_inside n at result }
-{
-    if n <= at {
-        return Opening::Missing;
-    }
-    if n - at == 1 {
-        return Opening::Missing;
-    }
-    let t = token_at(kinds, values, at);
-    let u = token_at(kinds, values, at + 1);
-    opening_of(t, u)
+    matches!(t, Token::Mark(k) if k == m)
 }
 
 fn is_name(t: Token) -> bool
     ensures { result ≡ is_name t }
 {
-    match t {
-        Token::Name(_) => true,
-        Token::Number(_) => false,
-        Token::Quoted(_) => false,
-        Token::Binary(_) => false,
-        Token::Compare(_) => false,
-        Token::Mark(_) => false,
-    }
-}
-
-pub fn name_at(kinds: &[u8], values: &[u32], n: usize, at: usize) -> bool
-    ensures found { result ≡ first_name (left n at kinds.now values.now) }
-    ensures inside { result ≡ true → at < n }
-{
-    if at < n {
-        return is_name(token_at(kinds, values, at));
-    }
-    false
+    matches!(t, Token::Name(_))
 }
 
 fn is_number(t: Token) -> bool
     ensures { result ≡ is_number t }
 {
+    matches!(t, Token::Number(_))
+}
+
+fn is_equal(s: Relation) -> bool
+    ensures { result ≡ is_equal s }
+{
+    matches!(s, Relation::Equal)
+}
+
+fn operand_of(t: Token) -> Option<Operand>
+    ensures { result ≡ operand_of t }
+{
     match t {
-        Token::Name(_) => false,
-        Token::Number(_) => true,
-        Token::Quoted(_) => false,
-        Token::Binary(_) => false,
-        Token::Compare(_) => false,
-        Token::Mark(_) => false,
+        Token::Name(w) => Some(Operand::Plain(Field::Word(w))),
+        Token::Number(v) | Token::Quoted(v) => Some(Operand::Plain(Field::Constant(v))),
+        Token::Mark(MARK_OPEN) => Some(Operand::Open),
+        _ => None,
     }
 }
 
-// Whether a number and a colon stand at a place.
-pub fn label_at(kinds: &[u8], values: &[u32], n: usize, at: usize) -> bool
-    ensures found { result ≡ first_label (left n at kinds.now values.now) }
-    ensures inside { result ≡ true → at + 1 < n }
+fn lead_of(t: Token) -> Option<Lead>
+    ensures { result ≡ lead_of t }
 {
-    if n <= at {
-        return false;
+    match t {
+        Token::Binary(Operator::Plus) => Some(Lead::Plus),
+        Token::Binary(Operator::Minus) => Some(Lead::Minus),
+        Token::Mark(MARK_INVERT) => Some(Lead::Invert),
+        _ => None,
     }
-    if n - at == 1 {
-        return false;
+}
+
+fn link_of(t: Token) -> Option<Operator>
+    ensures { result ≡ link_of t }
+{
+    match t {
+        Token::Binary(o) => Some(o),
+        _ => None,
     }
-    if is_number(token_at(kinds, values, at)) {
-        return is_mark(token_at(kinds, values, at + 1), MARK_COLON);
+}
+
+fn relation_of(t: Token) -> Option<Relation>
+    ensures { result ≡ relation_of t }
+{
+    match t {
+        Token::Compare(s) => Some(s),
+        _ => None,
     }
-    false
+}
+
+// What a name w and the token behind it open.
+fn behind_name(w: u32, t: Token) -> Option<Opening>
+    ensures { result ≡ behind_name w t }
+{
+    match t {
+        Token::Compare(s) if is_equal(s) => Some(Opening::Set(w)),
+        Token::Mark(MARK_OPEN) if w == WORD_SEND => Some(Opening::Send),
+        _ => None,
+    }
+}
+
+fn behind_arrow(t: Token) -> Option<Opening>
+    ensures { result ≡ behind_arrow t }
+{
+    match t {
+        Token::Number(l) => Some(Opening::Goto(l)),
+        _ => None,
+    }
+}
+
+fn opening_of(t: Token, u: Token) -> Option<Opening>
+    ensures { result ≡ opening_of t u }
+{
+    match t {
+        Token::Name(w) => behind_name(w, u),
+        Token::Mark(MARK_ARROW) => behind_arrow(u),
+        _ => None,
+    }
+}
+
+impl Tokens<'_> {
+    // The token at a place.
+    fn token(&self, at: usize) -> Option<Token>
+        ensures found { result ≡ first (ahead self.now at) }
+        ensures inside { OnSome result (at < self.now.count) }
+    {
+        if at < self.count {
+            return Some(token_at(self.kinds, self.values, at));
+        }
+        None
+    }
+
+    // Whether a mark stands at a place.
+    pub fn mark_at(&self, at: usize, m: u32) -> bool
+        ensures found { result ≡ opens m (ahead self.now at) }
+        ensures inside { result ≡ true → at < self.now.count }
+    {
+        self.token(at).is_some_and(|t| is_mark(t, m))
+    }
+
+    pub fn name_at(&self, at: usize) -> bool
+        ensures found { result ≡ first_name (ahead self.now at) }
+        ensures inside { result ≡ true → at < self.now.count }
+    {
+        self.token(at).is_some_and(is_name)
+    }
+
+    pub fn operand_at(&self, at: usize) -> Option<Operand>
+        ensures found { result ≡ first_operand (ahead self.now at) }
+        ensures inside { OnSome result (at < self.now.count) }
+    {
+        operand_of(self.token(at)?)
+    }
+
+    pub fn lead_at(&self, at: usize) -> Option<Lead>
+        ensures found { result ≡ first_lead (ahead self.now at) }
+        ensures inside { OnSome result (at < self.now.count) }
+    {
+        lead_of(self.token(at)?)
+    }
+
+    pub fn link_at(&self, at: usize) -> Option<Operator>
+        ensures found { result ≡ first_link (ahead self.now at) }
+        ensures inside { OnSome result (at < self.now.count) }
+    {
+        link_of(self.token(at)?)
+    }
+
+    pub fn relation_at(&self, at: usize) -> Option<Relation>
+        ensures found { result ≡ first_relation (ahead self.now at) }
+        ensures inside { OnSome result (at < self.now.count) }
+    {
+        relation_of(self.token(at)?)
+    }
+
+    pub fn opening_at(&self, at: usize) -> Option<Opening>
+        ensures found { result ≡ first_opening (ahead self.now at) }
+        ensures inside { OnSome result (at + 1 < self.now.count) }
+    {
+        let t = self.token(at)?;
+        let u = self.token(at + 1)?;
+        opening_of(t, u)
+    }
+
+    fn number_at(&self, at: usize) -> bool
+        ensures found { result ≡ first_number (ahead self.now at) }
+        ensures inside { result ≡ true → at < self.now.count }
+    {
+        self.token(at).is_some_and(is_number)
+    }
+
+    // Whether a number and a colon stand at a place.
+    pub fn label_at(&self, at: usize) -> bool
+        ensures found { result ≡ first_label (ahead self.now at) }
+        ensures inside { result ≡ true → at + 1 < self.now.count }
+    {
+        self.number_at(at) && self.mark_at(at + 1, MARK_COLON)
+    }
 }

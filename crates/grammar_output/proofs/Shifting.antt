@@ -1,88 +1,64 @@
 -- A field that is inserted among others: those from its place on move up by one.
-use Prim.Native.Nat.{ℕ, zero, suc, ◌+◌, ◌-◌, ◌<◌, ◌≤◌}
+use Prim.Native.Nat.{ℕ, suc, ◌+◌, ◌-◌, ◌<◌, ◌≤◌}
 use mathlib.Core.Path.{◌≡◌, refl, sym, ap, ap₂, ◌∙◌}
-use mathlib.Core.List.{List, [], ◌∷◌, ◌++◌}
+use mathlib.Core.List.{List, [], ◌∷◌, ◌++◌, map}
 use native.Mathlib.Omega.{arith}
-use lib.ListN.{length, get_or, set, length-set}
-use lib.Seq.{get_or-set_same, get_or-set_other, take_at, drop_at}
+use lib.ListN.{length, set, length-set, take, drop}
+use lib.Seq.{take_at, drop_at, take-suc-set, take-append_seam, drop-append_seam}
+use borrow.Rule.Slice.PartMut.{put_mid, mid_of, same_len_mid}
+use Rattle.std.proofs.lemmas.List.{drop-take, drop-append-le, length-take-le, length-drop, length-append, take-take, take-set-le, map-append, take-map, drop-map}
+use Rattle.std.proofs.lemmas.Slice.{take-put_mid}
 use Rattle.sheet.specs.declared.Field.{Field}
 use Rattle.sheet_field.specs.Memory.{carried, field_word, field_in, fields_from}
-use Rattle.sheet_field.proofs.Stored.{field_in_law, fields_length, fields_parted, fields_same, fields_behind, field_stored}
+use Rattle.sheet_field.proofs.Stored.{field_in_law, field_stored, fields_front}
 use Rattle.grammar_output.specs.Internal.{insert_at}
-
--- k places from p on, each with what stood before it; the first with x
-unfoldable pub shifted : ℕ → ℕ → ℕ → List ℕ → List ℕ
-shifted zero p x l = l
-shifted (suc k) p x l = shifted k (suc p) (get_or l p 0) (set l p x)
-
--- a turn of the loop
-pub shifted_turn : (i e x : ℕ) (l : List ℕ) → i ≤ e
-    → shifted (e + 1 - (i + 1)) (i + 1) (get_or l i 0) (set l i x) ≡ shifted (e + 1 - i) i x l
-unfolding shifted
-shifted_turn i e x l h =
-    let more : e + 1 - i ≡ suc (e + 1 - (i + 1)) = omega arith in
-    let one : i + 1 ≡ suc i = omega arith in
-    rw more (ap (λ j. shifted (e + 1 - (i + 1)) j (get_or l i 0) (set l i x)) one)
-
-pub shifted_over : (i e x : ℕ) (l : List ℕ) → e < i → shifted (e + 1 - i) i x l ≡ l
-unfolding shifted
-shifted_over i e x l h = let none : e + 1 - i ≡ 0 = omega arith in rw none refl
-
-pub shifted_length : (k p x : ℕ) (l : List ℕ) → length (shifted k p x l) ≡ length l
-unfolding shifted
-shifted_length zero p x l = refl
-shifted_length (suc k) p x l = shifted_length k (suc p) (get_or l p 0) (set l p x) ∙ length-set l p x
-
-shifted_before : (k p x : ℕ) (l : List ℕ) (i : ℕ) → i < p → get_or (shifted k p x l) i 0 ≡ get_or l i 0
-unfolding shifted
-shifted_before zero p x l i h = refl
-shifted_before (suc k) p x l i h =
-    shifted_before k (suc p) (get_or l p 0) (set l p x) i (omega arith) ∙ get_or-set_other l p i x 0 (omega arith)
-
-fields_shifted : (k p w : ℕ) (ws : List ℕ) → p + k < length ws
-    → fields_from p (suc k) (shifted (suc k) p w ws) ≡ field_in w ∷ fields_from p k ws
-unfolding fields_from shifted
-fields_shifted zero p w ws h = ap (λ a. field_in a ∷ []) (get_or-set_same ws p w 0 (omega arith))
-fields_shifted (suc k) p w ws h =
-    let here =
-    shifted_before (suc k) (suc p) (get_or ws p 0) (set ws p w) p (omega arith) ∙ get_or-set_same ws p w 0 (omega arith) in
-    ap₂
-    (λ a l. field_in a ∷ l)
-    here
-    (fields_shifted k (suc p) (get_or ws p 0) (set ws p w) (rw (length-set ws p w) (omega arith))
-    ∙ ap (λ l. field_in (get_or ws p 0) ∷ l) (fields_behind (suc p) k p w ws (omega arith)))
 
 pub insert_at_seam : (fs gs : List Field) (p : ℕ) (f : Field) → length fs ≡ p → insert_at p f (fs ++ gs) ≡ fs ++ f ∷ gs
 unfolding insert_at
 insert_at_seam fs gs p f e = rw (take_at fs gs p e, drop_at fs gs p e) refl
 
-front_parted : (p k : ℕ) (ws : List ℕ) → fields_from 0 (p + k) ws ≡ fields_from 0 p ws ++ fields_from p k ws
-front_parted p k ws =
-    let e : 0 + p ≡ p = omega arith in
-    fields_parted 0 p k ws ∙ ap (λ q. fields_from 0 p ws ++ fields_from q k ws) e
+-- the words up to place `out`, where w stands there: those before it, and w
+part_turned : (p out w : ℕ) (ws : List ℕ) → p ≤ out → out < length ws
+    → mid_of p (out + 1 - p) (set ws out w) ≡ drop p (take out ws) ++ (w ∷ [])
+part_turned p out w ws h g =
+    let many : p + (out + 1 - p) ≡ suc out = omega arith in
+    sym (drop-take p (out + 1 - p) (set ws out w))
+    ∙ ap (λ m. drop p (take m (set ws out w))) many
+    ∙ ap (drop p) (take-suc-set ws out w g)
+    ∙ drop-append-le p (take out ws) (w ∷ []) (rw (length-take-le out ws (omega arith)) h)
 
-inserted : (p out : ℕ) (f : Field) (ws : List ℕ) → carried f < 4294967296 → p ≤ out → out < length ws
-    → fields_from 0 (out + 1) (shifted (out + 1 - p) p (field_word f) ws) ≡ insert_at p f (fields_from 0 out ws)
-inserted p out f ws small h g = go (out - p) (omega arith)
-  where
-    go : (k : ℕ) → out ≡ p + k
-        → fields_from 0 (out + 1) (shifted (out + 1 - p) p (field_word f) ws) ≡ insert_at p f (fields_from 0 out ws)
-    go k e =
-        let many : out + 1 - p ≡ suc k = omega (arith, e) in
-        let all : out + 1 ≡ p + suc k = omega (arith, e) in
-        let ws₁ = shifted (suc k) p (field_word f) ws in
-        let old = fields_same 0 p ws₁ ws (λ i a b. shifted_before (suc k) p (field_word f) ws i (omega (arith, b))) in
-        let new = fields_shifted k p (field_word f) ws (omega (arith, e, g)) in
-        ap₂ (λ m j. fields_from 0 m (shifted j p (field_word f) ws)) all many
-        ∙ front_parted p (suc k) ws₁
-        ∙ ap₂ ◌++◌ old (new ∙ ap (λ x. x ∷ fields_from p k ws) (field_in_law f small))
-        ∙ sym (insert_at_seam (fields_from 0 p ws) (fields_from p k ws) p f (fields_length 0 p ws))
-        ∙ ap (insert_at p f) (sym (front_parted p k ws) ∙ ap (λ m. fields_from 0 m ws) (sym e))
+-- the last of them turned to the front
+turned : (xs : List ℕ) (w : ℕ) (ys : List ℕ) → ys ≡ xs ++ (w ∷ []) → drop (length ys - 1) ys ++ take (length ys - 1) ys ≡ w ∷ xs
+turned xs w ys e =
+    let many : length ys - 1 ≡ length xs = omega (arith, ap length e ∙ length-append xs (w ∷ [])) in
+    rw (many, e, drop-append_seam xs (w ∷ []), take-append_seam xs (w ∷ [])) refl
 
--- what the loop leaves where it began with the number of a field
-pub insert_done : (p out w : ℕ) (f : Field) (ws us : List ℕ) → us ≡ shifted (out + 1 - p) p w ws → (w ≡ field_word f) × (carried f < 4294967296)
-    → (out < length ws) × (p ≤ out) → fields_from 0 (out + 1) us ≡ insert_at p f (fields_from 0 out ws)
-insert_done p out w f ws us e packed room = rw (e, packed.0) (inserted p out f ws packed.1 room.1 room.0)
+-- a field that is put behind the others, and turned to place p
+pub inserted : (p out w : ℕ) (f : Field) (ws new : List ℕ) → (w ≡ field_word f) × (carried f < 4294967296)
+    → (out < length ws) × (p ≤ out)
+    → new ≡ drop (length (mid_of p (out + 1 - p) (set ws out w)) - 1) (mid_of p (out + 1 - p) (set ws out w))
+    ++ take (length (mid_of p (out + 1 - p) (set ws out w)) - 1) (mid_of p (out + 1 - p) (set ws out w))
+    → fields_from 0 (out + 1) (put_mid p (out + 1 - p) (set ws out w) new) ≡ insert_at p f (fields_from 0 out ws)
+unfolding insert_at
+inserted p out w f ws new packed room e =
+    let part : new ≡ w ∷ drop p (take out ws) = e ∙ turned (drop p (take out ws)) w _ (part_turned p out w ws room.1 room.0) in
+    let under : length (drop p (take out ws)) ≡ out - p =
+    length-drop p (take out ws) ∙ ap (λ m. m - p) (length-take-le out ws (omega arith)) in
+    let many : length new ≡ out + 1 - p = omega (arith, ap length part, under) in
+    let mid : length (mid_of p (out + 1 - p) (set ws out w)) ≡ out + 1 - p =
+    omega (arith, ap length (part_turned p out w ws room.1 room.0), length-append (drop p (take out ws)) (w ∷ []), under) in
+    let all : length (put_mid p (out + 1 - p) (set ws out w) new) ≡ length ws =
+    same_len_mid p (out + 1 - p) (set ws out w) new (many ∙ sym mid) ∙ length-set ws out w in
+    let words : take (out + 1) (put_mid p (out + 1 - p) (set ws out w) new) ≡ take p ws ++ (w ∷ drop p (take out ws)) =
+    take-put_mid p (out + 1 - p) (set ws out w) new (out + 1) (omega arith) (omega (arith, length-set ws out w))
+    ∙ ap₂ ◌++◌ (take-set-le p ws out w room.1) part in
+    let old : fields_from 0 out ws ≡ map field_in (take out ws) = fields_front out ws (omega arith) in
+    fields_front (out + 1) (put_mid p (out + 1 - p) (set ws out w) new) (omega arith)
+    ∙ ap (map field_in) words
+    ∙ map-append field_in (take p ws) (w ∷ drop p (take out ws))
+    ∙ ap₂ ◌++◌
+    (sym (ap (take p) old ∙ take-map field_in p (take out ws) ∙ ap (map field_in) (take-take p out ws room.1)))
+    (ap₂ ◌∷◌ (ap field_in packed.0 ∙ field_in_law f packed.1) (sym (ap (drop p) old ∙ drop-map field_in p (take out ws))))
 
 -- a field that is put behind the others
 pub put_behind : (out : ℕ) (f : Field) (ws : List ℕ) → carried f < 4294967296 → out < length ws

@@ -1,12 +1,11 @@
 -- What the functions do with fields and places. A reader of the promises needs none of it.
-use Rattle.std.specs.Prelude.{ℕ, ◌+◌, ◌*◌, ◌<◌, ◌≤◌, ◌≡◌, List, ◌∷◌, ◌++◌, eqb, length, take, drop}
+use Rattle.std.specs.Prelude.{ℕ, ◌+◌, ◌*◌, ◌<◌, ◌≤◌, ◌≡◌, Option, IfSome, List, ◌∷◌, ◌++◌, eqb, length, take, drop}
 use Rattle.base.specs.Choice.{pick}
 use Rattle.sheet.specs.declared.Operator.{Operator}
 use Rattle.sheet.specs.declared.Field.{Field}
 use Rattle.source.specs.Limits.{most_cells}
 use Rattle.source.specs.Grammar.{Read, read, none, level}
 use Rattle.grammar_output.specs.declared.Step.{Step}
-use Rattle.grammar_output.specs.declared.Step.TheVariants.{At, Missing}
 use Rattle.grammar_output.specs.declared.Places.{Places}
 
 -- a field at place p; those from there on move up by one
@@ -26,9 +25,8 @@ pub record Ready (n at out : ℕ) (fs : List ℕ) : Type 0 where
   pub room : n ≤ length fs
 
 -- at least d tokens were read, and no more fields written than tokens read
-abbrev pub Moved : ℕ → ℕ → ℕ → ℕ → Step → Type 0
-Moved d n at out (At a o) = (at + d ≤ a) × (a ≤ n) × (out ≤ o) × (o + at ≤ a + out)
-Moved d n at out Missing = Unit {0}
+abbrev pub Moved : ℕ → ℕ → ℕ → ℕ → Option Step → Type 0
+Moved d n at out r = IfSome r (λ s. (at + d ≤ s.at) × (s.at ≤ n) × (out ≤ s.out) × (s.out + at ≤ s.at + out))
 
 -- places among the cells of a statement, and the number that holds them
 pub record Small (p : Places) : Type 0 where

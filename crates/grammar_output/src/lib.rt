@@ -11,11 +11,11 @@ use sheet::{Field, Operator};
 use sheet_field::{kind_of, value_of};
 use source::MOST_CELLS;
 
-// What was read: the place behind it among the tokens, and the place behind its fields. Or that there is nothing of the form.
+// The places behind what was read: `at` among the tokens, and `out` among the fields.
 #[derive(Clone, Copy)]
-pub enum Step {
-    At(usize, usize),
-    Missing,
+pub struct Step {
+    pub at: usize,
+    pub out: usize,
 }
 
 // A field as one number: `field_word`, with the fact that what it carries fits, so that it can be read back.
@@ -39,14 +39,8 @@ pub fn insert(fields: &mut [u64], p: usize, out: usize, f: Field)
     requires { (out < length fields.old) × (p ≤ out) }
     ensures { fields_from 0 (out + 1) fields.new ≡ insert_at p f (fields_from 0 out fields.old) }
 {
-    let mut i = p;
-    let mut held = packed(f);
-    while i <= out {
-        let y = fields[i];
-        fields[i] = held;
-        held = y;
-        i += 1;
-    }
+    fields[out] = packed(f);
+    fields[p..=out].rotate_right(1);
 }
 
 // Where the left operand of an operator of the lowest level, the middle one and the highest one would start.
@@ -80,16 +74,9 @@ fn level_of(o: Operator) -> u8
     ensures { result ≡ level o }
 {
     match o {
-        Operator::Plus => 1,
-        Operator::Minus => 1,
-        Operator::Times => 2,
-        Operator::Over => 2,
-        Operator::Power => 3,
-        Operator::Left => 3,
-        Operator::Right => 3,
-        Operator::And => 2,
-        Operator::Or => 1,
-        Operator::Unlike => 1,
+        Operator::Plus | Operator::Minus | Operator::Or | Operator::Unlike => 1,
+        Operator::Times | Operator::Over | Operator::And => 2,
+        Operator::Power | Operator::Left | Operator::Right => 3,
     }
 }
 
@@ -97,35 +84,24 @@ fn level_of(o: Operator) -> u8
 pub fn place_for(p: Places, o: Operator) -> usize
     ensures { result ≡ place_for p o }
 {
-    let l = level_of(o);
-    if l == 1 {
-        return p.low;
+    match level_of(o) {
+        1 => p.low,
+        2 => p.middle,
+        _ => p.high,
     }
-    if l == 2 {
-        return p.middle;
-    }
-    p.high
 }
 
 // The operands of the levels above that of o start anew.
 pub fn places_after(p: Places, o: Operator, free: usize) -> Places
     ensures { result ≡ places_after p o free }
 {
-    let l = level_of(o);
-    if l == 1 {
-        let low = p.low;
-        return Places {
-            low,
+    match level_of(o) {
+        1 => Places {
             middle: free,
             high: free,
-        };
+            ..p
+        },
+        2 => Places { high: free, ..p },
+        _ => p,
     }
-    if l == 2 {
-        return Places {
-            low: p.low,
-            middle: p.middle,
-            high: free,
-        };
-    }
-    p
 }
