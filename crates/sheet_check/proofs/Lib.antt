@@ -1,4 +1,3 @@
-pub mod Fields
 pub mod States
 pub mod Complete
 pub mod Sound

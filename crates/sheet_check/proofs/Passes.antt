@@ -4,6 +4,7 @@ use mathlib.Core.Path.{◌≡◌, refl, sym, ap, subst, ◌∙◌}
 use mathlib.Core.Bool.{Bool, true, false}
 use mathlib.Core.List.{List, [], ◌∷◌, map}
 use native.Mathlib.Omega.{arith}
+use mir.Val.{bool_byte}
 use native.Mathlib.Numerals.{add-one}
 use lib.ListN.{length, get_or, drop, length-map, length-drop}
 use lib.Seq.{drop-cons}
@@ -12,11 +13,8 @@ use Rattle.sheet.specs.declared.Field.{Field}
 use Rattle.sheet.specs.Sheet.{count}
 use Rattle.sheet.specs.Within.{PartFormed}
 use Rattle.sheet_field.specs.Memory.{field_in, fields_at, most_fields}
-use Rattle.order.specs.Limits.{most_variables}
 use Rattle.sheet_check.specs.declared.State.{State}
-use Rattle.sheet_check.specs.declared.Step.{Step}
-use Rattle.sheet_check.specs.declared.Step.TheVariants.{To, Missing}
-use Rattle.sheet_check.specs.declared.Checked.TheVariants.{Sheet, Missing as NoSheet}
+use Rattle.std.specs.Prelude.{Option, Some, None}
 use Rattle.sheet_check.specs.Internal.{begins, begun, step_of, is_final, start, on_step, accepts}
 use Rattle.sheet_check.specs.Answers.{Checks}
 use Rattle.sheet_check.proofs.States.{Small, start_small, step_small}
@@ -35,11 +33,6 @@ left_none fs i h = none (fields_at i fs) (length-map (drop i fs) field_in ∙ le
 
 -- ---- instructions counted
 
-pub one_or_none : (t : Bool) (r : ℕ) → r ≡ pick t 1 0 → r ≤ 1
-unfolding pick
-one_or_none true r e = omega arith
-one_or_none false r e = omega arith
-
 pub record Counting (fs : List ℕ) (i n : ℕ) : Type 0 where
   pub all : n + begun (fields_at i fs) ≡ begun (fields_at 0 fs)
   pub few : n ≤ i
@@ -50,11 +43,11 @@ module _ (fs : List ℕ) where
   count_none = record { all = omega arith; few = omega arith; inside = omega arith }
 
   module _ (i n : ℕ) (p : Counting fs i n) (h : i < length fs) where
-    pub count_more : (r : ℕ) → r ≡ pick (begins (field_in (get_or fs i 0))) 1 0 → Counting fs (i + 1) (n + r)
+    pub count_more : (t : Bool) → t ≡ begins (field_in (get_or fs i 0)) → (r : ℕ) → r ≡ bool_byte t → Counting fs (i + 1) (n + r)
     unfolding begun pick
-    count_more r e = by (begins (field_in (get_or fs i 0))) e (ap begun (left_more fs i h))
+    count_more t told r e = by t e (ap begun (left_more fs i h) ∙ ap (λ b. pick b (suc (begun (fields_at (i + 1) fs))) (begun (fields_at (i + 1) fs))) (sym told))
       where
-        by : (t : Bool) → r ≡ pick t 1 0 → begun (fields_at i fs) ≡ pick t (suc (begun (fields_at (i + 1) fs))) (begun (fields_at (i + 1) fs)) → Counting fs (i + 1) (n + r)
+        by : (t : Bool) → r ≡ bool_byte t → begun (fields_at i fs) ≡ pick t (suc (begun (fields_at (i + 1) fs))) (begun (fields_at (i + 1) fs)) → Counting fs (i + 1) (n + r)
         by true is one = record { all = omega (arith, p.all, is, one); few = omega (arith, p.few, is); inside = omega arith }
         by false is one = record { all = omega (arith, p.all, is, one); few = omega (arith, p.few, is); inside = omega arith }
 
@@ -73,19 +66,19 @@ module _ (v n : ℕ) (fs : List ℕ) where
   pub pass_none : Passing v n fs 0 start
   pass_none = record { same = refl; small = start_small; inside = omega arith }
 
-  module _ (i : ℕ) (s : State) (p : Passing v n fs i s) (h : i < length fs) (r : Step) (e : r ≡ step_of v n s (field_in (get_or fs i 0))) where
+  module _ (i : ℕ) (s : State) (p : Passing v n fs i s) (h : i < length fs) (r : Option State) (e : r ≡ step_of v n s (field_in (get_or fs i 0))) where
     ahead : on_step r (λ t. accepts v n t (fields_at (i + 1) fs)) ≡ accepts v n start (fields_at 0 fs)
     unfolding accepts
     ahead = ap (λ x. on_step x (λ t. accepts v n t (fields_at (i + 1) fs))) e ∙ sym (ap (accepts v n s) (left_more fs i h)) ∙ p.same
 
-    pub pass_more : (t : State) → r ≡ To t → Passing v n fs (i + 1) t
+    pub pass_more : (t : State) → r ≡ Some t → Passing v n fs (i + 1) t
     pass_more t g = record {
       same = sym (ap (λ x. on_step x (λ t. accepts v n t (fields_at (i + 1) fs))) g) ∙ ahead;
       small = step_small i s p.small v n (field_in (get_or fs i 0)) r t e g;
       inside = omega arith;
     }
 
-    pub pass_stops : r ≡ Missing → false ≡ accepts v n start (fields_at 0 fs)
+    pub pass_stops : r ≡ None → false ≡ accepts v n start (fields_at 0 fs)
     pass_stops g = sym (ap (λ x. on_step x (λ t. accepts v n t (fields_at (i + 1) fs))) g) ∙ ahead
 
   pub pass_ends : (i : ℕ) (s : State) → Passing v n fs i s → length fs ≤ i → is_final s ≡ accepts v n start (fields_at 0 fs)
@@ -95,14 +88,8 @@ module _ (v n : ℕ) (fs : List ℕ) where
 -- ---- what the check tells
 
 module _ (fs : List ℕ) (v : ℕ) where
-  pub no_check : (length fs ≤ most_fields → v ≤ most_variables → ⊥) → Checks fs v NoSheet
-  no_check g = record {
-    found = λ n e. let z : ◌≡◌ {A = ℕ} 0 1 = cc in absurd (omega arith);
-    none = λ e few small x f. g few small;
-  }
-
   module _ (n : ℕ) (counted : n ≡ begun (fields_at 0 fs)) where
-    pub check_yes : accepts v n start (fields_at 0 fs) ≡ true → Checks fs v (Sheet n)
+    pub check_yes : accepts v n start (fields_at 0 fs) ≡ true → Checks fs v (Some n)
     check_yes e = record {
       found = λ m g.
           let same : n ≡ m = cc in
@@ -112,7 +99,7 @@ module _ (fs : List ℕ) (v : ℕ) where
       none = λ g. let z : ◌≡◌ {A = ℕ} 0 1 = cc in absurd (omega arith);
     }
 
-    pub check_no : accepts v n start (fields_at 0 fs) ≡ false → Checks fs v NoSheet
+    pub check_no : accepts v n start (fields_at 0 fs) ≡ false → Checks fs v None
     check_no e = record {
       found = λ m g. let z : ◌≡◌ {A = ℕ} 0 1 = cc in absurd (omega arith);
       none = λ g few small x f.

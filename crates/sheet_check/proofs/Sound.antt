@@ -27,7 +27,7 @@ use Rattle.sheet.specs.ReadBack.{is_variable}
 use Rattle.base.proofs.Cases.{both_yes}
 use Rattle.sheet.proofs.Checking.{variable_told}
 use Rattle.sheet_check.specs.declared.State.{State}
-use Rattle.sheet_check.specs.declared.Step.TheVariants.{To, Missing}
+use Rattle.std.specs.Prelude.{Some, None}
 use Rattle.sheet_check.specs.Internal.{value_step, leads_to, among, else_step, finish_step, instruction_step, compare_step, may_join, joined, run_step, condition_step}
 use Rattle.sheet_check.specs.Internal.{opened, start_step, next_step, step_of, at_instruction, is_final, start, on_step, accepts}
 use Rattle.sheet_check.proofs.Complete.{never, digits, Choice, any, behind, Fits, Due, instruction, opening, condition}
@@ -38,7 +38,7 @@ record Allowed (t : Bool) (f : State → Bool) (s : State) : Type 0 where
   yes_so : t ≡ true
   on : f s ≡ true
 
-allowed : (t : Bool) (s : State) (f : State → Bool) → on_step (pick t (To s) Missing) f ≡ true → Allowed t f s
+allowed : (t : Bool) (s : State) (f : State → Bool) → on_step (pick t (Some s) None) f ≡ true → Allowed t f s
 unfolding pick
 allowed true s f e = record { yes_so = refl; on = e }
 allowed false s f e = never e

@@ -18,8 +18,7 @@ use Rattle.sheet.specs.ReadBack.{is_variable}
 use Rattle.sheet_check.specs.declared.Next.{Next}
 use Rattle.sheet_check.specs.declared.Next.TheVariants.{Instruction, Start as StartNext, Condition, NoAnd, NoOr}
 use Rattle.sheet_check.specs.declared.State.{State}
-use Rattle.sheet_check.specs.declared.Step.{Step}
-use Rattle.sheet_check.specs.declared.Step.TheVariants.{To, Missing}
+use Rattle.std.specs.Prelude.{Option, Some, None}
 use Rattle.sheet_check.specs.Internal.{with_values, value_step, leads_to, among, else_step, finish_step, instruction_step}
 use Rattle.sheet_check.specs.Internal.{compare_step, may_join, run_step, condition_step, opened, start_step, next_step, step_of, start}
 
@@ -57,20 +56,20 @@ pub record Small (i : ℕ) (s : State) : Type 0 where
 pub seconds_few : (i : ℕ) (s : State) → Small i s → s.seconds < 2147483648
 seconds_few i s p = omega (arith, p.seconds, power_few s.groups p.groups)
 
-abbrev StepSmall : ℕ → Step → Type 0
-StepSmall i (To s) = Small i s
-StepSmall i Missing = Unit {0}
+abbrev StepSmall : ℕ → Option State → Type 0
+StepSmall i (Some s) = Small i s
+StepSmall i None = Unit {0}
 
 pub start_small : Small 0 start
 unfolding power
 start_small = record { values = omega arith; conditions = omega arith; groups = omega arith; seconds = omega arith }
 
-small_when : (i : ℕ) (t : Bool) (x : Step) → (t ≡ true → StepSmall i x) → StepSmall i (pick t x Missing)
+small_when : (i : ℕ) (t : Bool) (x : Option State) → (t ≡ true → StepSmall i x) → StepSmall i (pick t x None)
 unfolding pick
 small_when i true x h = h refl
 small_when i false x h = tt
 
-small_either : (i : ℕ) (t : Bool) (x y : Step) → (t ≡ true → StepSmall i x) → (t ≡ false → StepSmall i y) → StepSmall i (pick t x y)
+small_either : (i : ℕ) (t : Bool) (x y : Option State) → (t ≡ true → StepSmall i x) → (t ≡ false → StepSmall i y) → StepSmall i (pick t x y)
 unfolding pick
 small_either i true x y h k = h refl
 small_either i false x y h k = k refl
@@ -93,12 +92,12 @@ some_values : (k : ℕ) → (k ≡ 0 → ⊥) → 1 ≤ k
 some_values zero h = absurd (h refl)
 some_values (suc k) h = omega arith
 
-small_if : (i : ℕ) (t : Bool) (x : Step) → StepSmall i x → StepSmall i (pick t x Missing)
+small_if : (i : ℕ) (t : Bool) (x : Option State) → StepSmall i x → StepSmall i (pick t x None)
 unfolding pick
 small_if i true x h = h
 small_if i false x h = tt
 
-small_unless : (i : ℕ) (t : Bool) (x : Step) → (t ≡ false → StepSmall i x) → StepSmall i (pick t Missing x)
+small_unless : (i : ℕ) (t : Bool) (x : Option State) → (t ≡ false → StepSmall i x) → StepSmall i (pick t None x)
 unfolding pick
 small_unless i true x h = tt
 small_unless i false x h = h refl
@@ -129,8 +128,8 @@ module _ (i : ℕ) (s : State) (p : Small i s) where
   value_small v Not h = further
   value_small v (Binary o) h = same (s.values + 1) (omega (arith, p.values))
   value_small v (Compare r) h = tt
-  value_small v (Word w) h = small_if (i + 1) (is_variable v w) (To (with_values s (s.values - 1))) (same (s.values - 1) (omega (arith, p.values)))
-  value_small v (Constant n) h = small_if (i + 1) (leb n greatest_number) (To (with_values s (s.values - 1))) (same (s.values - 1) (omega (arith, p.values)))
+  value_small v (Word w) h = small_if (i + 1) (is_variable v w) (Some (with_values s (s.values - 1))) (same (s.values - 1) (omega (arith, p.values)))
+  value_small v (Constant n) h = small_if (i + 1) (leb n greatest_number) (Some (with_values s (s.values - 1))) (same (s.values - 1) (omega (arith, p.values)))
   value_small v (Set w) h = tt
   value_small v (Goto n) h = tt
   value_small v (Run w n) h = tt
@@ -246,5 +245,5 @@ module _ (i : ℕ) (s : State) (p : Small i s) where
   any_small v n f =
       small_either (i + 1) (eqb s.values 0) _ _ (λ e. next_small v n s.next f) (λ e. value_small v f (some_values s.values (eqb-false s.values 0 e)))
 
-  pub step_small : (v n : ℕ) (f : Field) (r : Step) (t : State) → r ≡ step_of v n s f → r ≡ To t → Small (i + 1) t
+  pub step_small : (v n : ℕ) (f : Field) (r : Option State) (t : State) → r ≡ step_of v n s f → r ≡ Some t → Small (i + 1) t
   step_small v n f r t e g = subst (StepSmall (i + 1)) (sym e ∙ g) (any_small v n f)

@@ -1,5 +1,5 @@
 -- The fields of a sheet, told one by one.
-use Rattle.std.specs.Prelude.{ℕ, suc, ◌+◌, ◌*◌, ◌-◌, ◌/◌, ◌%◌, Bool, true, false, List, [], ◌∷◌, ltb, leb, eqb}
+use Rattle.std.specs.Prelude.{ℕ, suc, ◌+◌, ◌*◌, ◌-◌, ◌/◌, ◌%◌, Bool, true, false, List, [], ◌∷◌, Option, Some, None, ltb, leb, eqb}
 use Rattle.base.specs.Choice.{pick}
 use Rattle.text.specs.Pieces.{greatest_number}
 use Rattle.sheet.specs.declared.Field.{Field}
@@ -12,8 +12,6 @@ use Rattle.sheet.specs.ReadBack.{is_variable}
 use Rattle.sheet_check.specs.declared.Next.{Next}
 use Rattle.sheet_check.specs.declared.Next.TheVariants.{Instruction, Start as StartNext, Condition, NoAnd, NoOr}
 use Rattle.sheet_check.specs.declared.State.{State}
-use Rattle.sheet_check.specs.declared.Step.{Step}
-use Rattle.sheet_check.specs.declared.Step.TheVariants.{To, Missing}
 
 -- ---- instructions counted
 
@@ -52,21 +50,21 @@ with_values s k = record {
 }
 
 -- where an expression must come
-abbrev pub value_step : ℕ → State → Field → Step
-value_step v s Else = Missing
-value_step v s Start = Missing
-value_step v s Finish = Missing
-value_step v s If = Missing
-value_step v s Send = Missing
-value_step v s Neg = To s
-value_step v s Not = To s
-value_step v s (Binary o) = To (with_values s (s.values + 1))
-value_step v s (Compare r) = Missing
-value_step v s (Word w) = pick (is_variable v w) (To (with_values s (s.values - 1))) Missing
-value_step v s (Constant k) = pick (leb k greatest_number) (To (with_values s (s.values - 1))) Missing
-value_step v s (Set w) = Missing
-value_step v s (Goto k) = Missing
-value_step v s (Run w k) = Missing
+abbrev pub value_step : ℕ → State → Field → Option State
+value_step v s Else = None
+value_step v s Start = None
+value_step v s Finish = None
+value_step v s If = None
+value_step v s Send = None
+value_step v s Neg = Some s
+value_step v s Not = Some s
+value_step v s (Binary o) = Some (with_values s (s.values + 1))
+value_step v s (Compare r) = None
+value_step v s (Word w) = pick (is_variable v w) (Some (with_values s (s.values - 1))) None
+value_step v s (Constant k) = pick (leb k greatest_number) (Some (with_values s (s.values - 1))) None
+value_step v s (Set w) = None
+value_step v s (Goto k) = None
+value_step v s (Run w k) = None
 
 abbrev pub leads_to : ℕ → ℕ → Bool
 leads_to n s = pick (leb 1 s) (leb s (n + 1)) false
@@ -100,45 +98,45 @@ asked s = record {
   some = true;
 }
 
-unfoldable pub else_step : State → Step
+unfoldable pub else_step : State → Option State
 else_step s =
     pick
     (eqb s.groups 0)
-    Missing
+    None
     (pick
     (eqb (s.seconds % 2) 1)
-    Missing
+    None
     (pick
     s.some
-    (To (among 0 s.groups (s.seconds + 1) false))
-    Missing))
+    (Some (among 0 s.groups (s.seconds + 1) false))
+    None))
 
-unfoldable pub finish_step : State → Step
+unfoldable pub finish_step : State → Option State
 finish_step s =
     pick
     (eqb s.groups 0)
-    Missing
+    None
     (pick
     s.some
-    (To (among 0 (s.groups - 1) (s.seconds / 2) true))
-    Missing)
+    (Some (among 0 (s.groups - 1) (s.seconds / 2) true))
+    None)
 
 -- where an instruction or the end of a part must come
-abbrev pub instruction_step : ℕ → ℕ → State → Field → Step
+abbrev pub instruction_step : ℕ → ℕ → State → Field → Option State
 instruction_step v n s Else = else_step s
-instruction_step v n s Start = Missing
+instruction_step v n s Start = None
 instruction_step v n s Finish = finish_step s
-instruction_step v n s If = To (asked s)
-instruction_step v n s Send = To (instructed s 1)
-instruction_step v n s Neg = Missing
-instruction_step v n s Not = Missing
-instruction_step v n s (Binary o) = Missing
-instruction_step v n s (Compare r) = Missing
-instruction_step v n s (Word w) = Missing
-instruction_step v n s (Constant k) = Missing
-instruction_step v n s (Set w) = pick (is_variable v w) (To (instructed s 1)) Missing
-instruction_step v n s (Goto k) = pick (leads_to n k) (To (instructed s 0)) Missing
-instruction_step v n s (Run w k) = Missing
+instruction_step v n s If = Some (asked s)
+instruction_step v n s Send = Some (instructed s 1)
+instruction_step v n s Neg = None
+instruction_step v n s Not = None
+instruction_step v n s (Binary o) = None
+instruction_step v n s (Compare r) = None
+instruction_step v n s (Word w) = None
+instruction_step v n s (Constant k) = None
+instruction_step v n s (Set w) = pick (is_variable v w) (Some (instructed s 1)) None
+instruction_step v n s (Goto k) = pick (leads_to n k) (Some (instructed s 0)) None
+instruction_step v n s (Run w k) = None
 
 -- a comparison, which two expressions follow, then what is next, and m conditions beside that
 abbrev pub compared : State → ℕ → Next → State
@@ -152,12 +150,12 @@ compared s m next = record {
   some = s.some;
 }
 
-unfoldable pub compare_step : State → Step
+unfoldable pub compare_step : State → Option State
 compare_step s =
     pick
     (eqb s.room 0)
-    Missing
-    (pick (eqb s.conditions 0) (To (compared s 0 StartNext)) (To (compared s (s.conditions - 1) Condition)))
+    None
+    (pick (eqb s.conditions 0) (Some (compared s 0 StartNext)) (Some (compared s (s.conditions - 1) Condition)))
 
 -- whether a run of a word may come
 abbrev pub may_join : Next → Joining → Bool
@@ -186,58 +184,58 @@ joined s w = record {
   some = s.some;
 }
 
-unfoldable pub run_step : State → Joining → ℕ → Step
-run_step s w n = pick (eqb n 0) (pick (may_join s.next w) (To (joined s w)) Missing) Missing
+unfoldable pub run_step : State → Joining → ℕ → Option State
+run_step s w n = pick (eqb n 0) (pick (may_join s.next w) (Some (joined s w)) None) None
 
 -- where a condition must come
-abbrev pub condition_step : State → Field → Step
-condition_step s Else = Missing
-condition_step s Start = Missing
-condition_step s Finish = Missing
-condition_step s If = Missing
-condition_step s Send = Missing
-condition_step s Neg = Missing
-condition_step s Not = Missing
-condition_step s (Binary o) = Missing
+abbrev pub condition_step : State → Field → Option State
+condition_step s Else = None
+condition_step s Start = None
+condition_step s Finish = None
+condition_step s If = None
+condition_step s Send = None
+condition_step s Neg = None
+condition_step s Not = None
+condition_step s (Binary o) = None
 condition_step s (Compare r) = compare_step s
-condition_step s (Word w) = Missing
-condition_step s (Constant k) = Missing
-condition_step s (Set w) = Missing
-condition_step s (Goto k) = Missing
+condition_step s (Word w) = None
+condition_step s (Constant k) = None
+condition_step s (Set w) = None
+condition_step s (Goto k) = None
 condition_step s (Run w k) = run_step s w k
 
-unfoldable pub opened : State → Step
+unfoldable pub opened : State → Option State
 opened s =
     pick
     (ltb s.groups most_levels)
-    (To (among 0 (s.groups + 1) (2 * s.seconds) false))
-    Missing
+    (Some (among 0 (s.groups + 1) (2 * s.seconds) false))
+    None
 
 -- where START must come
-abbrev pub start_step : State → Field → Step
-start_step s Else = Missing
+abbrev pub start_step : State → Field → Option State
+start_step s Else = None
 start_step s Start = opened s
-start_step s Finish = Missing
-start_step s If = Missing
-start_step s Send = Missing
-start_step s Neg = Missing
-start_step s Not = Missing
-start_step s (Binary o) = Missing
-start_step s (Compare r) = Missing
-start_step s (Word w) = Missing
-start_step s (Constant k) = Missing
-start_step s (Set w) = Missing
-start_step s (Goto k) = Missing
-start_step s (Run w k) = Missing
+start_step s Finish = None
+start_step s If = None
+start_step s Send = None
+start_step s Neg = None
+start_step s Not = None
+start_step s (Binary o) = None
+start_step s (Compare r) = None
+start_step s (Word w) = None
+start_step s (Constant k) = None
+start_step s (Set w) = None
+start_step s (Goto k) = None
+start_step s (Run w k) = None
 
-abbrev pub next_step : ℕ → ℕ → Next → State → Field → Step
+abbrev pub next_step : ℕ → ℕ → Next → State → Field → Option State
 next_step v n Instruction s f = instruction_step v n s f
 next_step v n StartNext s f = start_step s f
 next_step v n Condition s f = condition_step s f
 next_step v n NoAnd s f = condition_step s f
 next_step v n NoOr s f = condition_step s f
 
-unfoldable pub step_of : ℕ → ℕ → State → Field → Step
+unfoldable pub step_of : ℕ → ℕ → State → Field → Option State
 step_of v n s f = pick (eqb s.values 0) (next_step v n s.next s f) (value_step v s f)
 
 abbrev pub at_instruction : Next → Bool
@@ -250,9 +248,9 @@ at_instruction NoOr = false
 unfoldable pub is_final : State → Bool
 is_final s = pick (eqb s.values 0) (pick (eqb s.groups 0) (at_instruction s.next) false) false
 
-abbrev pub on_step : Step → (State → Bool) → Bool
-on_step (To s) f = f s
-on_step Missing f = false
+abbrev pub on_step : Option State → (State → Bool) → Bool
+on_step (Some s) f = f s
+on_step None f = false
 
 -- whether a sheet of n instructions can go on from the state s with these fields
 unfoldable pub accepts : ℕ → ℕ → State → List Field → Bool

@@ -2,13 +2,12 @@
 #![tactic(auto)]
 
 ghost use Rattle.std.specs.Prelude.{◌+◌, ◌≤◌, ◌<◌, ◌≡◌, length};
-ghost use Rattle.base.specs.Choice.{pick};
 ghost use Rattle.sheet.specs.ReadBack.{is_variable};
 ghost use Rattle.sheet_field.specs.Memory.{fields_at, most_fields};
 ghost use Rattle.order.specs.Limits.{most_variables};
 ghost use Rattle.sheet_check.specs.Internal.{begins, begun, with_values, value_step, leads_to, among as among_of, instructed as instructed_of, else_step, finish_step};
 ghost use Rattle.sheet_check.specs.Internal.{instruction_step, asked as asked_of, compared as compared_of, compare_step, may_join, first_of, run_step, condition_step};
-ghost use Rattle.sheet_check.specs.Internal.{opened as opened_of, start_step, step_of, at_instruction, is_final, start, accepts};
+ghost use Rattle.sheet_check.specs.Internal.{opened as opened_of, start_step, step_of, is_final, start, accepts};
 ghost use Rattle.sheet_check.specs.Answers.{Checks};
 
 use order::MOST_VARIABLES;
@@ -44,33 +43,13 @@ pub struct State {
     pub some: bool,
 }
 
-// What comes of a field: the state behind it, or that no sheet goes on with it.
-#[derive(Clone, Copy)]
-pub enum Step {
-    To(State),
-    Missing,
-}
-
-// How many instructions the sheet has that the fields are of, or that they are of none.
-#[derive(Clone, Copy)]
-pub enum Checked {
-    Sheet(u32),
-    Missing,
-}
-
 // ---- what a field is
 
-// How many instructions begin with a field: one or none.
-fn counts(f: Field) -> u32
-    ensures { result ≡ pick (begins f) 1 0 }
+// Whether an instruction begins with a field.
+fn begins(f: Field) -> bool
+    ensures { result ≡ begins f }
 {
-    match f {
-        Field::If => 1,
-        Field::Send => 1,
-        Field::Set(_) => 1,
-        Field::Goto(_) => 1,
-        _ => 0,
-    }
+    matches!(f, Field::If | Field::Send | Field::Set(_) | Field::Goto(_))
 }
 
 // How many instructions begin among fields.
@@ -78,34 +57,28 @@ fn count(fields: &[u64]) -> u32
     requires { length fields.now ≤ most_fields }
     ensures { result ≡ begun (fields_at 0 fields.now) }
 {
-    let mut n: u32 = 0;
-    let mut i = 0;
-    while i < fields.len() {
-        n += counts(field_in(fields[i]));
-        i += 1;
+    let mut n = 0;
+    for &w in fields {
+        n += u32::from(begins(field_in(w)));
     }
     n
 }
 
+#[tactic(auto, unfolding(base::specs::Choice::pick))]
 fn is_variable(w: u32, v: u32) -> bool
     requires { v ≤ most_variables }
     ensures { result ≡ is_variable v w }
 {
-    if w < 2 {
-        return false;
-    }
-    w < v + 2
+    2 <= w && w < v + 2
 }
 
 // Whether s is the number of one of n instructions, or one past the last.
+#[tactic(auto, unfolding(base::specs::Choice::pick))]
 fn leads_to(n: u32, s: u32) -> bool
     requires { n ≤ most_fields }
     ensures { result ≡ leads_to n s }
 {
-    if 1 <= s {
-        return s <= n + 1;
-    }
-    false
+    1 <= s && s <= n + 1
 }
 
 // ---- what a field does
@@ -113,16 +86,7 @@ fn leads_to(n: u32, s: u32) -> bool
 fn with_values(s: State, k: u32) -> State
     ensures { result ≡ with_values s k }
 {
-    let next = s.next;
-    State {
-        values: k,
-        groups: s.groups,
-        seconds: s.seconds,
-        conditions: s.conditions,
-        room: s.room,
-        next,
-        some: s.some,
-    }
+    State { values: k, ..s }
 }
 
 // A place among instructions, k expressions before it.
@@ -153,94 +117,67 @@ fn asked(s: State) -> State
 {
     State {
         values: 0,
-        groups: s.groups,
-        seconds: s.seconds,
         conditions: 0,
         room: MOST_COMPARISONS,
         next: Next::Condition,
         some: true,
+        ..s
     }
 }
 
-// A field where an expression must come.
-fn value_step(s: State, f: Field, v: u32) -> Step
+// What comes of a field where an expression must come: the state behind it, or none, where no sheet goes on with it. The steps below
+// answer so too.
+#[tactic(auto, unfolding(base::specs::Choice::pick))]
+fn value_step(s: State, f: Field, v: u32) -> Option<State>
     requires { (1 ≤ s.values) × (s.values < 4294967295) × (v ≤ most_variables) }
     ensures { result ≡ value_step v s f }
 {
-    let k = s.values;
     match f {
-        Field::Neg => Step::To(s),
-        Field::Not => Step::To(s),
-        Field::Binary(_) => Step::To(with_values(s, k + 1)),
-        Field::Word(w) => {
-            if is_variable(w, v) {
-                return Step::To(with_values(s, k - 1));
-            }
-            Step::Missing
-        }
-        Field::Constant(n) => {
-            if n <= GREATEST_NUMBER {
-                return Step::To(with_values(s, k - 1));
-            }
-            Step::Missing
-        }
-        _ => Step::Missing,
+        Field::Neg | Field::Not => Some(s),
+        Field::Binary(_) => Some(with_values(s, s.values + 1)),
+        Field::Word(w) if is_variable(w, v) => Some(with_values(s, s.values - 1)),
+        Field::Constant(n) if n <= GREATEST_NUMBER => Some(with_values(s, s.values - 1)),
+        _ => None,
     }
 }
 
 // ELSE closes a first part that is not empty.
-fn else_step(s: State) -> Step
+#[tactic(auto, unfolding(crate::specs::Internal::else_step, base::specs::Choice::pick))]
+fn else_step(s: State) -> Option<State>
     requires { s.seconds < 4294967295 }
     ensures { result ≡ else_step s }
 {
-    if s.groups == 0 {
-        return Step::Missing;
+    if s.groups == 0 || s.seconds % 2 == 1 || !s.some {
+        return None;
     }
-    if s.seconds % 2 == 1 {
-        return Step::Missing;
-    }
-    if s.some {
-        return Step::To(among(0, s.groups, s.seconds + 1, false));
-    }
-    Step::Missing
+    Some(among(0, s.groups, s.seconds + 1, false))
 }
 
 // FINISH closes a part that is not empty.
-fn finish_step(s: State) -> Step
+#[tactic(auto, unfolding(crate::specs::Internal::finish_step, base::specs::Choice::pick))]
+fn finish_step(s: State) -> Option<State>
     ensures { result ≡ finish_step s }
 {
-    if s.groups == 0 {
-        return Step::Missing;
+    if s.groups == 0 || !s.some {
+        return None;
     }
-    if s.some {
-        return Step::To(among(0, s.groups - 1, s.seconds / 2, true));
-    }
-    Step::Missing
+    Some(among(0, s.groups - 1, s.seconds / 2, true))
 }
 
 // A field where an instruction or the end of a part must come.
-fn instruction_step(s: State, f: Field, v: u32, n: u32) -> Step
+#[tactic(auto, unfolding(base::specs::Choice::pick))]
+fn instruction_step(s: State, f: Field, v: u32, n: u32) -> Option<State>
     requires { (s.seconds < 4294967295) × (v ≤ most_variables) × (n ≤ most_fields) }
     ensures { result ≡ instruction_step v n s f }
 {
     match f {
         Field::Else => else_step(s),
         Field::Finish => finish_step(s),
-        Field::If => Step::To(asked(s)),
-        Field::Send => Step::To(instructed(s, 1)),
-        Field::Set(w) => {
-            if is_variable(w, v) {
-                return Step::To(instructed(s, 1));
-            }
-            Step::Missing
-        }
-        Field::Goto(k) => {
-            if leads_to(n, k) {
-                return Step::To(instructed(s, 0));
-            }
-            Step::Missing
-        }
-        _ => Step::Missing,
+        Field::If => Some(asked(s)),
+        Field::Send => Some(instructed(s, 1)),
+        Field::Set(w) if is_variable(w, v) => Some(instructed(s, 1)),
+        Field::Goto(k) if leads_to(n, k) => Some(instructed(s, 0)),
+        _ => None,
     }
 }
 
@@ -251,26 +188,25 @@ fn compared(s: State, m: u32, next: Next) -> State
 {
     State {
         values: 2,
-        groups: s.groups,
-        seconds: s.seconds,
         conditions: m,
         room: s.room - 1,
         next,
-        some: s.some,
+        ..s
     }
 }
 
 // A comparison where a condition must come.
-fn compare_step(s: State) -> Step
+#[tactic(auto, unfolding(crate::specs::Internal::compare_step, base::specs::Choice::pick))]
+fn compare_step(s: State) -> Option<State>
     ensures { result ≡ compare_step s }
 {
     if s.room == 0 {
-        return Step::Missing;
+        return None;
     }
     if s.conditions == 0 {
-        return Step::To(compared(s, 0, Next::Start));
+        return Some(compared(s, 0, Next::Start));
     }
-    Step::To(compared(s, s.conditions - 1, Next::Condition))
+    Some(compared(s, s.conditions - 1, Next::Condition))
 }
 
 // Whether a run of a word may come.
@@ -278,17 +214,10 @@ fn may_join(next: Next, w: Joining) -> bool
     ensures { result ≡ may_join next w }
 {
     match next {
-        Next::Instruction => false,
-        Next::Start => false,
+        Next::Instruction | Next::Start => false,
         Next::Condition => true,
-        Next::NoAnd => match w {
-            Joining::And => false,
-            Joining::Or => true,
-        },
-        Next::NoOr => match w {
-            Joining::And => true,
-            Joining::Or => false,
-        },
+        Next::NoAnd => matches!(w, Joining::Or),
+        Next::NoOr => matches!(w, Joining::And),
     }
 }
 
@@ -303,102 +232,80 @@ fn first_of(w: Joining) -> Next
 }
 
 // A run where a condition must come.
-fn run_step(s: State, w: Joining, n: u32) -> Step
+#[tactic(auto, unfolding(crate::specs::Internal::run_step, base::specs::Choice::pick))]
+fn run_step(s: State, w: Joining, n: u32) -> Option<State>
     requires { s.conditions < 4294967295 }
     ensures { result ≡ run_step s w n }
 {
-    let next = s.next;
-    if n != 0 {
-        return Step::Missing;
+    if n != 0 || !may_join(s.next, w) {
+        return None;
     }
-    if may_join(next, w) {
-        return Step::To(State {
-            values: 0,
-            groups: s.groups,
-            seconds: s.seconds,
-            conditions: s.conditions + 1,
-            room: s.room,
-            next: first_of(w),
-            some: s.some,
-        });
-    }
-    Step::Missing
+    Some(State {
+        values: 0,
+        conditions: s.conditions + 1,
+        next: first_of(w),
+        ..s
+    })
 }
 
 // A field where a condition must come.
-fn condition_step(s: State, f: Field) -> Step
+fn condition_step(s: State, f: Field) -> Option<State>
     requires { s.conditions < 4294967295 }
     ensures { result ≡ condition_step s f }
 {
     match f {
         Field::Compare(_) => compare_step(s),
         Field::Run(w, n) => run_step(s, w, n),
-        _ => Step::Missing,
+        _ => None,
     }
 }
 
 // START opens a group, at most MOST_LEVELS deep.
-fn opened(s: State) -> Step
+#[tactic(auto, unfolding(crate::specs::Internal::opened, base::specs::Choice::pick))]
+fn opened(s: State) -> Option<State>
     requires { s.seconds < 2147483648 }
     ensures { result ≡ opened_of s }
 {
     if s.groups < MOST_LEVELS {
-        return Step::To(among(0, s.groups + 1, 2 * s.seconds, false));
+        Some(among(0, s.groups + 1, 2 * s.seconds, false))
+    } else {
+        None
     }
-    Step::Missing
 }
 
 // A field where START must come.
-fn start_step(s: State, f: Field) -> Step
+fn start_step(s: State, f: Field) -> Option<State>
     requires { s.seconds < 2147483648 }
     ensures { result ≡ start_step s f }
 {
-    let Field::Start = f else {
-        return Step::Missing;
-    };
-    opened(s)
+    match f {
+        Field::Start => opened(s),
+        _ => None,
+    }
 }
 
 // Any field.
-fn one_step(s: State, f: Field, v: u32, n: u32) -> Step
+#[tactic(auto, unfolding(crate::specs::Internal::step_of, base::specs::Choice::pick))]
+fn one_step(s: State, f: Field, v: u32, n: u32) -> Option<State>
     requires { (s.values < 4294967295) × (s.seconds < 2147483648) × (s.conditions < 4294967295) × (v ≤ most_variables) × (n ≤ most_fields) }
     ensures { result ≡ step_of v n s f }
 {
-    if s.values == 0 {
-        let next = s.next;
-        return match next {
-            Next::Instruction => instruction_step(s, f, v, n),
-            Next::Start => start_step(s, f),
-            _ => condition_step(s, f),
-        };
+    if s.values != 0 {
+        return value_step(s, f, v);
     }
-    value_step(s, f, v)
-}
-
-fn at_instruction(next: Next) -> bool
-    ensures { result ≡ at_instruction next }
-{
-    match next {
-        Next::Instruction => true,
-        Next::Start => false,
-        Next::Condition => false,
-        Next::NoAnd => false,
-        Next::NoOr => false,
+    match s.next {
+        Next::Instruction => instruction_step(s, f, v, n),
+        Next::Start => start_step(s, f),
+        Next::Condition | Next::NoAnd | Next::NoOr => condition_step(s, f),
     }
 }
 
 // Whether a sheet can end in a state.
+#[tactic(auto, unfolding(crate::specs::Internal::is_final, base::specs::Choice::pick))]
 fn is_final(s: State) -> bool
     ensures { result ≡ is_final s }
 {
-    if s.values == 0 {
-        if s.groups == 0 {
-            let next = s.next;
-            return at_instruction(next);
-        }
-        return false;
-    }
-    false
+    s.values == 0 && s.groups == 0 && matches!(s.next, Next::Instruction)
 }
 
 // Whether the fields are accepted from the beginning, as those of n instructions.
@@ -407,30 +314,26 @@ fn accepted(fields: &[u64], v: u32, n: u32) -> bool
     ensures { result ≡ accepts v n start (fields_at 0 fields.now) }
 {
     let mut s = among(0, 0, 0, false);
-    let mut i = 0;
-    while i < fields.len() {
-        let Step::To(t) = one_step(s, field_in(fields[i]), v, n) else {
+    for &w in fields {
+        let Some(t) = one_step(s, field_in(w), v, n) else {
             return false;
         };
         s = t;
-        i += 1;
     }
     is_final(s)
 }
 
-// Whether the fields are those of a sheet with V variables, and of how many instructions.
-pub fn check(fields: &[u64], v: u32) -> Checked
+// Of how many instructions the sheet with V variables is whose fields these are; or that they are of none.
+pub fn check(fields: &[u64], v: u32) -> Option<u32>
     ensures { Checks fields.now v result }
 {
-    if MOST_FIELDS < fields.len() {
-        return Checked::Missing;
-    }
-    if MOST_VARIABLES < v {
-        return Checked::Missing;
+    if MOST_FIELDS < fields.len() || MOST_VARIABLES < v {
+        return None;
     }
     let n = count(fields);
     if accepted(fields, v, n) {
-        return Checked::Sheet(n);
+        Some(n)
+    } else {
+        None
     }
-    Checked::Missing
 }

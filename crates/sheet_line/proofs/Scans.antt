@@ -19,13 +19,13 @@ use Rattle.sheet.specs.declared.Field.TheVariants.{Run}
 use Rattle.sheet.specs.Condition.{same_word}
 use Rattle.sheet_field.specs.Memory.{shapes, field_of, field_word, field_in, fields_at}
 use Rattle.sheet_field.proofs.Numbering.{no_field}
-use Rattle.sheet_field.proofs.Stored.{field_in_law, field_ended}
+use Rattle.sheet_field.proofs.Stored.{field_in_law}
 use Rattle.sheet_line.specs.declared.Node.{Node}
 use Rattle.sheet_line.specs.declared.Node.TheVariants.{Comparison, Run as Joined, If as Asks, Other}
-use Rattle.sheet_line.specs.declared.Back.{Back}
-use Rattle.sheet_line.specs.declared.Back.TheVariants.{On, Told}
+use Rattle.std.specs.Prelude.{Option, Some, None}
+use Rattle.std.specs.declared.ops.ControlFlow.{ControlFlow}
+use Rattle.std.specs.declared.ops.ControlFlow.TheVariants.{Continue, Break}
 use Rattle.sheet_line.specs.declared.Count.{Count}
-use Rattle.sheet_line.specs.declared.Count.TheVariants.{On as Further, Done}
 use Rattle.sheet_line.specs.Runs.{node_of, back_step, on_back, is_rest, member_step, on_count, members_from, line_field}
 use Rattle.sheet_line.specs.Answers.{before}
 
@@ -57,15 +57,11 @@ no_node v k h =
 pub node_told : (k v : ℕ) → node_of (field_of k v) ≡ node_by k
 node_told k v = by_less k 29 (λ h. each_at (λ j. node_of (field_of j v)) node_by 29 (all_nodes v) k h) (no_node v k)
 
--- where the array has ended there is ELSE
-pub node_ended : (ws : List ℕ) (i : ℕ) → length ws ≤ i → Other ≡ node_of (field_in (get_or ws i 0))
-node_ended ws i h = ap node_of (field_ended ws i h)
-
 -- ---- numbers rise by one at most
 
-abbrev FewBack : ℕ → Back → Type 0
-FewBack k (On j) = j ≤ k
-FewBack k (Told t) = Unit {0}
+abbrev FewBack : ℕ → ControlFlow Bool ℕ → Type 0
+FewBack k (Continue j) = j ≤ k
+FewBack k (Break t) = Unit {0}
 
 few_back : (n : Node) (k : ℕ) (w : Joining) → FewBack (k + 1) (back_step n k w)
 few_back Comparison k w = omega arith
@@ -74,9 +70,9 @@ few_back (Joined u) k w =
 few_back Asks k w = tt
 few_back Other k w = omega arith
 
-abbrev FewMore : ℕ → Count → Type 0
-FewMore k (Further m n) = m ≤ k
-FewMore k Done = Unit {0}
+abbrev FewMore : ℕ → Option Count → Type 0
+FewMore k (Some c) = c.more ≤ k
+FewMore k None = Unit {0}
 
 few_more : (n : Node) (m k : ℕ) (w : Joining) → FewMore (m + 1) (member_step n m k w)
 few_more Comparison m k w = either_part (FewMore (m + 1)) (eqb m 0) _ _ (λ e. tt) (λ e. omega arith)
@@ -92,25 +88,22 @@ module _ (ws : List ℕ) (w : Joining) where
     pub same : is_rest w k (before i ws) ≡ is_rest w 0 (before at ws)
     pub few : k + i ≤ at
 
-  pub gone_none : (at : ℕ) → Gone at 0 at
-  gone_none at = record { same = refl; few = omega arith }
-
   back_one : (i k : ℕ) → 0 < i
       → is_rest w k (before i ws) ≡ on_back (back_step (node_of (field_in (get_or ws (i - 1) 0))) k w) (λ j. is_rest w j (before (i - 1) ws))
   unfolding is_rest before
   back_one zero k h = absurd (omega arith)
   back_one (suc i) k h = let less : suc i - 1 ≡ i = omega arith in rw less refl
 
-  module _ (at k i : ℕ) (p : Gone at k i) (h : 0 < i) (r : Back) (e : r ≡ back_step (node_of (field_in (get_or ws (i - 1) 0))) k w) where
+  module _ (at k i : ℕ) (p : Gone at k i) (h : 0 < i) (r : ControlFlow Bool ℕ) (e : r ≡ back_step (node_of (field_in (get_or ws (i - 1) 0))) k w) where
     ahead : on_back r (λ j. is_rest w j (before (i - 1) ws)) ≡ is_rest w 0 (before at ws)
     ahead = ap (λ x. on_back x (λ j. is_rest w j (before (i - 1) ws))) e ∙ sym (back_one i k h) ∙ p.same
 
-    pub gone_more : (j : ℕ) → r ≡ On j → Gone at j (i - 1)
+    pub gone_more : (j : ℕ) → r ≡ Continue j → Gone at j (i - 1)
     gone_more j g =
         let few : j ≤ k + 1 = subst (FewBack (k + 1)) (sym e ∙ g) (few_back (node_of (field_in (get_or ws (i - 1) 0))) k w) in
         record { same = sym (ap (λ x. on_back x (λ j. is_rest w j (before (i - 1) ws))) g) ∙ ahead; few = omega (arith, few, p.few) }
 
-    pub gone_told : (t : Bool) → r ≡ Told t → t ≡ is_rest w 0 (before at ws)
+    pub gone_told : (t : Bool) → r ≡ Break t → t ≡ is_rest w 0 (before at ws)
     gone_told t g = sym (ap (λ x. on_back x (λ j. is_rest w j (before (i - 1) ws))) g) ∙ ahead
 
   pub gone_over : (at k i : ℕ) → Gone at k i → i ≤ 0 → false ≡ is_rest w 0 (before at ws)
@@ -124,10 +117,7 @@ module _ (ws : List ℕ) (w : Joining) where
     pub same : members_from w m k (fields_at i ws) ≡ members_from w 1 2 (fields_at at ws)
     pub few : m ≤ i
 
-  pub over_none : (at : ℕ) → 1 ≤ at → Over at 1 2 at
-  over_none at h = record { same = refl; few = h }
-
-  module _ (at m k i : ℕ) (p : Over at m k i) (h : i < length ws) (r : Count) (e : r ≡ member_step (node_of (field_in (get_or ws i 0))) m k w) where
+  module _ (at m k i : ℕ) (p : Over at m k i) (h : i < length ws) (r : Option Count) (e : r ≡ member_step (node_of (field_in (get_or ws i 0))) m k w) where
     further : on_count k r (λ m n. members_from w m n (fields_at (i + 1) ws)) ≡ members_from w 1 2 (fields_at at ws)
     unfolding members_from
     further =
@@ -135,12 +125,12 @@ module _ (ws : List ℕ) (w : Joining) where
         ∙ sym (ap (λ l. members_from w m k (map field_in l)) (drop_more ws i 0 h))
         ∙ p.same
 
-    pub over_more : (m' n : ℕ) → r ≡ Further m' n → Over at m' n (i + 1)
-    over_more m' n g =
-        let few : m' ≤ m + 1 = subst (FewMore (m + 1)) (sym e ∙ g) (few_more (node_of (field_in (get_or ws i 0))) m k w) in
+    pub over_more : (c : Count) → r ≡ Some c → Over at c.more c.members (i + 1)
+    over_more c g =
+        let few : c.more ≤ m + 1 = subst (FewMore (m + 1)) (sym e ∙ g) (few_more (node_of (field_in (get_or ws i 0))) m k w) in
         record { same = sym (ap (λ x. on_count k x (λ m n. members_from w m n (fields_at (i + 1) ws))) g) ∙ further; few = omega (arith, few, p.few) }
 
-    pub over_done : r ≡ Done → k ≡ members_from w 1 2 (fields_at at ws)
+    pub over_done : r ≡ None → k ≡ members_from w 1 2 (fields_at at ws)
     over_done g = sym (ap (λ x. on_count k x (λ m n. members_from w m n (fields_at (i + 1) ws))) g) ∙ further
 
   pub over_ended : (at m k i : ℕ) → Over at m k i → length ws ≤ i → k ≡ members_from w 1 2 (fields_at at ws)

@@ -1,9 +1,7 @@
 -- What is told of a field in an array.
-use Rattle.std.specs.Prelude.{ℕ, zero, suc, List, [], ◌∷◌, get_or}
+use Rattle.std.specs.Prelude.{ℕ, zero, suc, List, [], ◌∷◌, Option, Some, None, get_or}
 use Rattle.sheet.specs.declared.Field.{Field}
 use Rattle.sheet_field.specs.Memory.{field_in}
-use Rattle.sheet_line.specs.declared.Shown.{Shown}
-use Rattle.sheet_line.specs.declared.Shown.TheVariants.{As, Rest}
 
 -- the fields before a place of an array, the last first
 unfoldable pub before : ℕ → List ℕ → List Field
@@ -11,6 +9,6 @@ before zero ws = []
 before (suc i) ws = field_in (get_or ws i 0) ∷ before i ws
 
 -- what is written of a field
-abbrev pub shown : Shown → List Field
-shown (As w) = field_in w ∷ []
-shown Rest = []
+abbrev pub shown : Option ℕ → List Field
+shown (Some w) = field_in w ∷ []
+shown None = []

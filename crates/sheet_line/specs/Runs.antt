@@ -1,7 +1,9 @@
 -- From the fields of a sheet in memory to those of its lines: a run's word stands before its first member, with the number of its
 -- members, and the words of its rest are left out. It is told of any fields, whether or not they are a sheet's; proofs/Runs.antt shows
 -- that of a sheet's fields those of its lines are made.
-use Rattle.std.specs.Prelude.{ℕ, ◌+◌, ◌-◌, Bool, false, List, [], ◌∷◌, ◌++◌, ltb, eqb}
+use Rattle.std.specs.Prelude.{ℕ, ◌+◌, ◌-◌, Bool, false, List, [], ◌∷◌, ◌++◌, Option, Some, None, ltb, eqb}
+use Rattle.std.specs.declared.ops.ControlFlow.{ControlFlow}
+use Rattle.std.specs.declared.ops.ControlFlow.TheVariants.{Continue, Break}
 use Rattle.base.specs.Choice.{pick}
 use Rattle.sheet.specs.declared.Joining.{Joining}
 use Rattle.sheet.specs.declared.Field.{Field}
@@ -9,10 +11,7 @@ use Rattle.sheet.specs.declared.Field.TheVariants.{Else, Start, Finish, If, Send
 use Rattle.sheet.specs.Condition.{same_word}
 use Rattle.sheet_line.specs.declared.Node.{Node}
 use Rattle.sheet_line.specs.declared.Node.TheVariants.{Comparison, Run as Joined, If as Asks, Other}
-use Rattle.sheet_line.specs.declared.Back.{Back}
-use Rattle.sheet_line.specs.declared.Back.TheVariants.{On, Told}
 use Rattle.sheet_line.specs.declared.Count.{Count}
-use Rattle.sheet_line.specs.declared.Count.TheVariants.{On as Further, Done}
 
 abbrev pub node_of : Field → Node
 node_of Else = Other
@@ -34,15 +33,15 @@ node_of (Run w n) = Joined w
 
 -- a field before a run of the word w, where k whole conditions stand between the two. Where it is the word of a run itself, that run
 -- takes the first two of them; or the one that there is, and then the run of w is its rest
-abbrev pub back_step : Node → ℕ → Joining → Back
-back_step Comparison k w = On (k + 1)
-back_step (Joined u) k w = pick (eqb k 0) (Told false) (pick (eqb k 1) (Told (same_word u w)) (On (k - 1)))
-back_step Asks k w = Told false
-back_step Other k w = On k
+abbrev pub back_step : Node → ℕ → Joining → ControlFlow Bool ℕ
+back_step Comparison k w = Continue (k + 1)
+back_step (Joined u) k w = pick (eqb k 0) (Break false) (pick (eqb k 1) (Break (same_word u w)) (Continue (k - 1)))
+back_step Asks k w = Break false
+back_step Other k w = Continue k
 
-abbrev pub on_back : Back → (ℕ → Bool) → Bool
-on_back (On k) go = go k
-on_back (Told answer) go = answer
+abbrev pub on_back : ControlFlow Bool ℕ → (ℕ → Bool) → Bool
+on_back (Continue k) go = go k
+on_back (Break answer) go = answer
 
 -- by the fields before it, the last of them first
 unfoldable pub is_rest : Joining → ℕ → List Field → Bool
@@ -55,18 +54,22 @@ is_rest w k (f ∷ l) = on_back (back_step (node_of f) k w) (λ j. is_rest w j l
 unfoldable pub one_more : ℕ → ℕ
 one_more n = pick (ltb n 4294967295) (n + 1) n
 
+-- so many conditions must come beside the next, and so many members are known of
+abbrev counted : ℕ → ℕ → Option Count
+counted more members = Some (record { more = more; members = members })
+
 -- a field of a run of the word w, where `more` conditions must come beside the next. Where none must, the next is the rest, which stands
 -- for one member more where it is a run of w itself
-abbrev pub member_step : Node → ℕ → ℕ → Joining → Count
-member_step Comparison more members w = pick (eqb more 0) Done (Further (more - 1) members)
+abbrev pub member_step : Node → ℕ → ℕ → Joining → Option Count
+member_step Comparison more members w = pick (eqb more 0) None (counted (more - 1) members)
 member_step (Joined u) more members w =
-    pick (eqb more 0) (pick (same_word w u) (Further 1 (one_more members)) Done) (Further (more + 1) members)
-member_step Asks more members w = Further more members
-member_step Other more members w = Further more members
+    pick (eqb more 0) (pick (same_word w u) (counted 1 (one_more members)) None) (counted (more + 1) members)
+member_step Asks more members w = counted more members
+member_step Other more members w = counted more members
 
-abbrev pub on_count : ℕ → Count → (ℕ → ℕ → ℕ) → ℕ
-on_count members (Further more n) go = go more n
-on_count members Done go = members
+abbrev pub on_count : ℕ → Option Count → (ℕ → ℕ → ℕ) → ℕ
+on_count members (Some c) go = go c.more c.members
+on_count members None go = members
 
 unfoldable pub members_from : Joining → ℕ → ℕ → List Field → ℕ
 members_from w more members [] = members

@@ -5,11 +5,12 @@
 ghost use Rattle.std.specs.Prelude.{◌≡◌, ◌+◌, ◌≤◌, ◌<◌, length, get_or};
 ghost use Rattle.sheet.specs.Condition.{same_word};
 ghost use Rattle.sheet_field.specs.Memory.{field_in, fields_at};
-ghost use Rattle.sheet_line.specs.Runs.{node_of, back_step, is_rest, one_more, member_step, members_from, line_field};
+ghost use Rattle.sheet_line.specs.Runs.{node_of, back_step, is_rest, member_step, members_from, line_field};
 ghost use Rattle.sheet_line.specs.Answers.{before, shown};
 
 use sheet::{Field, Joining};
 use sheet_field::field_word;
+use std::ops::ControlFlow;
 
 // A field as a part of a condition: a comparison, the word of a run, or neither; and IF, which stands before the condition.
 #[derive(Clone, Copy)]
@@ -20,94 +21,53 @@ pub enum Node {
     Other,
 }
 
-// Going back from the word of a run: on with so many conditions passed, or whether the run is the rest of one of its own word.
+// How far a run was gone over: so many conditions must come beside the next, and so many members are known of.
 #[derive(Clone, Copy)]
-pub enum Back {
-    On(usize),
-    Told(bool),
-}
-
-// Going over a run: on with so many conditions to come beside the next, and so many members; or there are no more members.
-#[derive(Clone, Copy)]
-pub enum Count {
-    On(usize, u32),
-    Done,
-}
-
-// What is written of a field: the field that a number stands for; or nothing, where it is the word of the rest of a run.
-#[derive(Clone, Copy)]
-pub enum Shown {
-    As(u64),
-    Rest,
+pub struct Count {
+    pub more: usize,
+    pub members: u32,
 }
 
 // What the field that a number stands for is to a condition, by the number of its kind (`kind` of sheet_field's specs/Memory.antt).
+#[tactic(auto, using(crate::proofs::Scans::node_told), unfolding(base::specs::Choice::pick))]
 fn node_in(w: u64) -> Node
     ensures { result ≡ node_of (field_in w) }
 {
-    let k = w / 4294967296;
-    if k < 17 {
-        if k == 3 {
-            return Node::If;
-        }
-        return Node::Other;
+    match w / 4294967296 {
+        3 => Node::If,
+        17..=22 => Node::Comparison,
+        27 => Node::Run(Joining::And),
+        28 => Node::Run(Joining::Or),
+        _ => Node::Other,
     }
-    if k < 23 {
-        return Node::Comparison;
-    }
-    if k == 27 {
-        return Node::Run(Joining::And);
-    }
-    if k == 28 {
-        return Node::Run(Joining::Or);
-    }
-    Node::Other
-}
-
-// The same of the field at a place of an array; ELSE where it has ended.
-fn node_at(fields: &[u64], at: usize) -> Node
-    ensures { result ≡ node_of (field_in (get_or fields.now at 0)) }
-{
-    if at < fields.len() {
-        return node_in(fields[at]);
-    }
-    Node::Other
 }
 
 fn same_word(u: Joining, w: Joining) -> bool
     ensures { result ≡ same_word u w }
 {
-    match u {
-        Joining::And => match w {
-            Joining::And => true,
-            Joining::Or => false,
-        },
-        Joining::Or => match w {
-            Joining::And => false,
-            Joining::Or => true,
-        },
-    }
+    matches!(
+        (u, w),
+        (Joining::And, Joining::And) | (Joining::Or, Joining::Or)
+    )
 }
 
-// A field before a run of the word w, where k whole conditions stand between the two. Where it is the word of a run itself, that run
-// takes the first two of them; or the one that there is, and then the run of w is its rest.
-fn back_step(n: Node, k: usize, w: Joining) -> Back
+// A field before a run of the word w, where k whole conditions stand between the two: back goes on with so many of them, or ends with
+// whether the run is the rest of one of its own word. Where the field is the word of a run itself, that run takes the first two of the
+// conditions; or the one that there is, and then the run of w is its rest.
+#[tactic(auto, unfolding(base::specs::Choice::pick))]
+fn back_step(n: Node, k: usize, w: Joining) -> ControlFlow<bool, usize>
     requires { k < 18446744073709551615 }
     ensures { result ≡ back_step n k w }
 {
     match n {
-        Node::Comparison => Back::On(k + 1),
-        Node::Run(u) => {
-            if k == 0 {
-                return Back::Told(false);
-            }
-            if k == 1 {
-                return Back::Told(same_word(u, w));
-            }
-            Back::On(k - 1)
-        }
-        Node::If => Back::Told(false),
-        Node::Other => Back::On(k),
+        Node::Comparison => ControlFlow::Continue(k + 1),
+        Node::Run(u) => match k {
+            0 => ControlFlow::Break(false),
+            1 => ControlFlow::Break(same_word(u, w)),
+            _ => ControlFlow::Continue(k - 1),
+        },
+        Node::If => ControlFlow::Break(false),
+        Node::Other => ControlFlow::Continue(k),
     }
 }
 
@@ -115,52 +75,41 @@ fn back_step(n: Node, k: usize, w: Joining) -> Back
 fn is_rest(fields: &[u64], at: usize, w: Joining) -> bool
     ensures { result ≡ is_rest w 0 (before at fields.now) }
 {
-    let mut k: usize = 0;
-    let mut i = at;
-    while 0 < i {
-        i -= 1;
-        match back_step(node_at(fields, i), k, w) {
-            Back::On(j) => k = j,
-            Back::Told(answer) => return answer,
+    let mut k = 0;
+    for i in (0..at).rev() {
+        match back_step(node_in(base::at(fields, i, 0)), k, w) {
+            ControlFlow::Continue(j) => k = j,
+            ControlFlow::Break(answer) => return answer,
         }
     }
     false
 }
 
-// One member more, as far as a field can carry the number.
-fn one_more(members: u32) -> u32
-    ensures { result ≡ one_more members }
+// A field of a run of the word w, where it was gone over so far; or none, where there are no more members. Where no condition must
+// come beside the next, the next is the rest, which stands for one member more where it is a run of w itself; as far as a field can
+// carry the number.
+#[tactic(auto, unfolding(base::specs::Choice::pick, crate::specs::Runs::one_more))]
+fn member_step(n: Node, c: Count, w: Joining) -> Option<Count>
+    requires { c.more < 18446744073709551615 }
+    ensures { result ≡ member_step n c.more c.members w }
 {
-    if members < 4294967295 {
-        return members + 1;
-    }
-    members
-}
-
-// A field of a run of the word w, where so many conditions must come beside the next, and so many members are known of. Where none
-// must come beside it the next is the rest, which stands for one member more where it is a run of w itself.
-fn member_step(n: Node, more: usize, members: u32, w: Joining) -> Count
-    requires { more < 18446744073709551615 }
-    ensures { result ≡ member_step n more members w }
-{
+    let Count { more, members } = c;
     match n {
-        Node::Comparison => {
-            if more == 0 {
-                return Count::Done;
-            }
-            Count::On(more - 1, members)
-        }
-        Node::Run(u) => {
-            if more != 0 {
-                return Count::On(more + 1, members);
-            }
-            if same_word(w, u) {
-                return Count::On(1, one_more(members));
-            }
-            Count::Done
-        }
-        Node::If => Count::On(more, members),
-        Node::Other => Count::On(more, members),
+        Node::Comparison if more == 0 => None,
+        Node::Comparison => Some(Count {
+            more: more - 1,
+            members,
+        }),
+        Node::Run(_) if more != 0 => Some(Count {
+            more: more + 1,
+            members,
+        }),
+        Node::Run(u) if same_word(w, u) => Some(Count {
+            more: 1,
+            members: members.saturating_add(1),
+        }),
+        Node::Run(_) => None,
+        Node::If | Node::Other => Some(c),
     }
 }
 
@@ -169,31 +118,31 @@ fn member_count(fields: &[u64], at: usize, w: Joining) -> u32
     requires { 1 ≤ at }
     ensures { result ≡ members_from w 1 2 (fields_at at fields.now) }
 {
-    let mut more: usize = 1;
-    let mut members: u32 = 2;
-    let mut i = at;
-    while i < fields.len() {
-        let Count::On(m, n) = member_step(node_in(fields[i]), more, members, w) else {
-            return members;
+    let mut run = Count {
+        more: 1,
+        members: 2,
+    };
+    for i in at..fields.len() {
+        let Some(further) = member_step(node_in(fields[i]), run, w) else {
+            break;
         };
-        more = m;
-        members = n;
-        i += 1;
+        run = further;
     }
-    members
+    run.members
 }
 
-// What is written of the field at a place: a run with the number of its members, and nothing of the rest of one.
-pub fn shown_at(fields: &[u64], at: usize) -> Shown
+// What is written of the field at a place, as the number that stands for it: of a run with the number of its members, and nothing of
+// the word of the rest of one.
+pub fn shown_at(fields: &[u64], at: usize) -> Option<u64>
     requires { at < length fields.now }
     ensures { shown result ≡ line_field (before at fields.now) (field_in (get_or fields.now at 0)) (fields_at (at + 1) fields.now) }
 {
     let w = fields[at];
     let Node::Run(u) = node_in(w) else {
-        return Shown::As(w);
+        return Some(w);
     };
     if is_rest(fields, at, u) {
-        return Shown::Rest;
+        return None;
     }
-    Shown::As(field_word(Field::Run(u, member_count(fields, at + 1, u))))
+    Some(field_word(Field::Run(u, member_count(fields, at + 1, u))))
 }

@@ -8,5 +8,5 @@ accepted-requires c = (c.if-fields-gt-MOST_FIELDS.false, c.if-v-gt-MOST_VARIABLE
 pub returns-then-accepted : goal.returns-then-accepted
 returns-then-accepted c = check_yes _ _ _ c.count-n.ensures (sym c.accepted.ensures ∙ c.if-accepted.true)
 
-pub returns : goal.returns
-returns c = check_no _ _ _ c.count-n.ensures (sym c.accepted.ensures ∙ c.if-accepted.false)
+pub returns-else-accepted : goal.returns-else-accepted
+returns-else-accepted c = check_no _ _ _ c.count-n.ensures (sym c.accepted.ensures ∙ c.if-accepted.false)

@@ -3,6 +3,3 @@ use Rattle.sheet_line.proofs.is_rest.Given as goal
 
 abbrev pub invariant-loop-i : goal.invariant-loop-i
 invariant-loop-i l = Gone l.fields l.w l.at l.k l.i
-
-abbrev pub decreases-loop-i : goal.decreases-loop-i
-decreases-loop-i l = l.i
