@@ -5,63 +5,47 @@
 ghost use Rattle.std.specs.Prelude.{◌≡◌, ◌/◌, ◌%◌, eqb, get_or, set};
 ghost use Rattle.groups.specs.Memory.{group_word, began_in, part_in, statement_in};
 
-// `instruction_numbers` of specs/Memory.antt.
-const BEGAN: u32 = 2147483648;
+use base::{at, put};
 
-fn put(groups: &mut [u64], at: u32, w: u64)
-    ensures { groups.new ≡ set groups.old at w }
-{
-    let i = at as usize;
-    if i < groups.len() {
-        groups[i] = w;
-    }
-}
+// The places of a group's number, from low to high: how many instructions there were, less than `instruction_numbers` of
+// specs/Memory.antt; 1 for a second part; the statement.
+const SECOND: u64 = 1 << 31;
 
-fn word_at(groups: &[u64], at: u32) -> u64
-    ensures { result ≡ get_or groups.now at 0 }
-{
-    let i = at as usize;
-    if i < groups.len() {
-        return groups[i];
-    }
-    0
-}
+const STATEMENT: u64 = 1 << 32;
 
 // A first part of statement k.
-pub fn put_first(groups: &mut [u64], at: u32, k: u32, began: u32)
-    ensures { groups.new ≡ set groups.old at (group_word k 0 began) }
+pub fn put_first(groups: &mut [u64], i: u32, k: u32, began: u32)
+    ensures { groups.new ≡ set groups.old i (group_word k 0 began) }
 {
-    put(groups, at, k as u64 * 4294967296 + (began % BEGAN) as u64);
+    let first = k as u64 * STATEMENT + began as u64 % SECOND;
+    put(groups, i as usize, first);
 }
 
 // A second part of statement k.
-pub fn put_second(groups: &mut [u64], at: u32, k: u32, began: u32)
-    ensures { groups.new ≡ set groups.old at (group_word k 1 began) }
+pub fn put_second(groups: &mut [u64], i: u32, k: u32, began: u32)
+    ensures { groups.new ≡ set groups.old i (group_word k 1 began) }
 {
-    put(
-        groups,
-        at,
-        k as u64 * 4294967296 + 2147483648 + (began % BEGAN) as u64,
-    );
+    let second = k as u64 * STATEMENT + SECOND + began as u64 % SECOND;
+    put(groups, i as usize, second);
 }
 
 // How many instructions there were when a group began.
-pub fn began_at(groups: &[u64], at: u32) -> u32
-    ensures { result ≡ began_in (get_or groups.now at 0) }
+pub fn began_at(groups: &[u64], i: u32) -> u32
+    ensures { result ≡ began_in (get_or groups.now i 0) }
 {
-    (word_at(groups, at) % 2147483648) as u32
+    (at(groups, i as usize, 0) % SECOND) as u32
 }
 
 // Whether a group is a second part.
-pub fn is_second(groups: &[u64], at: u32) -> bool
-    ensures { result ≡ eqb (part_in (get_or groups.now at 0)) 1 }
+pub fn is_second(groups: &[u64], i: u32) -> bool
+    ensures { result ≡ eqb (part_in (get_or groups.now i 0)) 1 }
 {
-    word_at(groups, at) / 2147483648 % 2 == 1
+    at(groups, i as usize, 0) / SECOND % 2 == 1
 }
 
 // The statement with its `%START`.
-pub fn statement_at(groups: &[u64], at: u32) -> u32
-    ensures { result ≡ statement_in (get_or groups.now at 0) }
+pub fn statement_at(groups: &[u64], i: u32) -> u32
+    ensures { result ≡ statement_in (get_or groups.now i 0) }
 {
-    (word_at(groups, at) / 4294967296) as u32
+    (at(groups, i as usize, 0) / STATEMENT) as u32
 }

@@ -5,12 +5,12 @@ use mathlib.Core.List.{List, ◌∷◌}
 use native.Mathlib.Omega.{arith}
 use borrow.Author.Tests.{eq-eqb, ne_eqb, lt-ltb, le-ltb}
 use lib.ListN.{get_or}
+use Rattle.std.proofs.Common.{Some, None}
 use Rattle.base.specs.Choice.{pick}
 use Rattle.base.specs.Places.{each}
 use Rattle.base.proofs.Cases.{by_less, by_equal}
 use Rattle.base.proofs.Places.{each_more, each_over, each_same}
 use Rattle.source.specs.Program.{Spot, before, next, behind, Label, label, is_set, moved, arrived, number_at, number_of}
-use Rattle.labels.specs.declared.Found.TheVariants.{Number, Missing}
 use Rattle.labels.specs.Memory.{spot_numbers, instruction_numbers, spot_in, label_in, labels_of, SoFar}
 use Rattle.labels.specs.Answers.{found_of}
 
@@ -29,22 +29,13 @@ module _ (n m : ℕ) where
   unfolding pick
   spot_behind e h = rw (ne_eqb m n e, le-ltb m instruction_numbers h) refl
 
-  -- the number of the instruction after it
-  pub number_behind : instruction_numbers ≤ m → n ≡ number_at n (spot_in n m)
-  number_behind h =
-      by_equal m n (λ e. sym (ap (number_at n) (spot_next e))) (λ e. sym (ap (number_at n) (spot_behind e h)))
-
-  pub number_before : m < instruction_numbers → m ≡ number_at n (spot_in n m)
-  number_before h =
-      by_equal m n (λ e. e ∙ sym (ap (number_at n) (spot_next e))) (λ e. sym (ap (number_at n) (spot_before e h)))
-
 -- ---- the loop that finds a label
 
 module _ (f : ℕ → ℕ) (n count i l : ℕ) where
   abbrev left : ℕ → List Label
   left k = each (λ j. label_in n (f j)) k (count - k)
 
-  pub found_here : i < count → f i / spot_numbers ≡ l → (m : ℕ) → m ≡ number_at n (spot_in n (f i % spot_numbers)) → Number m ≡ found_of n (left i) l
+  pub found_here : i < count → f i / spot_numbers ≡ l → (m : ℕ) → m ≡ number_at n (spot_in n (f i % spot_numbers)) → Some m ≡ found_of n (left i) l
   unfolding found_of is_set number_of pick
   found_here h e m known = rw (each_more (λ j. label_in n (f j)) i count h, eq-eqb _ _ e, known) refl
 
@@ -52,7 +43,7 @@ module _ (f : ℕ → ℕ) (n count i l : ℕ) where
   unfolding found_of is_set number_of pick
   found_turn h e = rw (each_more (λ j. label_in n (f j)) i count h, ne_eqb _ _ e) refl
 
-  pub found_over : count ≤ i → Missing ≡ found_of n (left i) l
+  pub found_over : count ≤ i → None ≡ found_of n (left i) l
   unfolding found_of is_set number_of pick
   found_over h = rw (each_over (λ j. label_in n (f j)) i count h) refl
 

@@ -4,35 +4,14 @@ use mathlib.Core.Path.{◌≡◌, refl, sym, ap, ◌∙◌}
 use mathlib.Core.List.{List}
 use native.Mathlib.Omega.{arith}
 use borrow.Author.Tests.{eq-eqb, ne_eqb}
-use lib.ListN.{length, get_or, set, length-set}
-use lib.Seq.{get_or-set_same, get_or-set_other}
+use lib.ListN.{get_or}
 use Rattle.base.specs.Choice.{pick}
 use Rattle.base.proofs.Cases.{by_less, by_equal}
 use Rattle.source.specs.Program.{behind, put_off, taken_up}
 use Rattle.labels.specs.Memory.{spot_numbers, instruction_numbers, spot_in}
 use Rattle.labels.specs.Answers.{PutsOff, TakesUp}
-use Rattle.labels.specs.Internal.{moved_entry, Moving, Moves}
+use Rattle.labels.specs.Internal.{moved_entry, Moves}
 use Rattle.labels.proofs.Finding.{spot_next, spot_before, spot_behind, moved_same}
-
--- ---- the loop
-
-module _ (from to : ℕ) (l : List ℕ) where
-  pub move_none : Moving from to l 0 l
-  move_none = record { kept = refl; done = λ j h. absurd (omega arith); others = λ j h. refl }
-
-  pub move_more : (i : ℕ) (now after : List ℕ) (e m : ℕ) → Moving from to l i now → i < length now → e ≡ get_or now i 0
-      → m ≡ moved_entry from to e → after ≡ set now i m → Moving from to l (i + 1) after
-  move_more i now after e m p h is_entry is_moved put = record {
-    kept = ap length put ∙ length-set now i m ∙ p.kept;
-    done = λ j g.
-        by_equal j i
-        (λ same. rw (same, put) (get_or-set_same now i m 0 h ∙ is_moved ∙ ap (moved_entry from to) (is_entry ∙ p.others i (omega arith))))
-        (λ other. rw put (get_or-set_other now i j m 0 (omega arith)) ∙ p.done j (omega arith));
-    others = λ j g. rw put (get_or-set_other now i j m 0 (omega arith)) ∙ p.others j (omega arith);
-  }
-
-  pub move_ends : (i : ℕ) (now : List ℕ) → Moving from to l i now → length now ≤ i → Moves from to l now
-  move_ends i now p h = record { kept = p.kept; done = λ j g. p.done j (omega (arith, p.kept)) }
 
 -- ---- a row of the table
 

@@ -8,6 +8,7 @@ use borrow.Author.Tests.{eq-eqb, ne_eqb, le-leb, lt-leb, lt-ltb, eqb-true, leb-t
 use lib.Dec.{ltb, leb, eqb}
 use lib.ListN.{length, get_or, set}
 use lib.Seq.{get_or-set_same, get_or-set_other}
+use Rattle.std.proofs.Common.{is_some, Result, Ok, Err}
 use Rattle.base.specs.Choice.{pick}
 use Rattle.base.specs.Places.{each}
 use Rattle.base.proofs.Cases.{by_test, by_equal, both_yes}
@@ -15,9 +16,8 @@ use Rattle.base.proofs.Places.{each_more, each_over, each_append, each_same, eac
 use Rattle.source.specs.Limits.{greatest_label}
 use Rattle.source.specs.Memory.{label_rows}
 use Rattle.source.specs.Program.{next, Label, label, is_set, can_set, labels_set}
-use Rattle.labels.specs.declared.Found.TheVariants.{Number, Missing}
-use Rattle.labels.specs.declared.Set.{Set}
-use Rattle.labels.specs.declared.Set.TheVariants.{Labels as Sets, Refused as Refuses, Unfit as NotFit}
+use Rattle.labels.specs.declared.Failure.{Failure}
+use Rattle.labels.specs.declared.Failure.TheVariants.{Refused, Unfit}
 use Rattle.labels.specs.Memory.{spot_numbers, instruction_numbers, label_in, labels_of, SoFar}
 use Rattle.labels.specs.Answers.{found_of, labels, refusal, unfit, set_all, fit, set_of, SetsLabels}
 use Rattle.labels.specs.Internal.{Room, SetsOne, SettingAll, SetsAll, Loop}
@@ -25,16 +25,10 @@ use Rattle.labels.proofs.Finding.{spot_next}
 
 -- ---- one label
 
--- what finding a label tells
-found_told : (n : ℕ) (ls : List Label) (l m : ℕ) → Number m ≡ found_of n ls l → is_set ls l ≡ true
+-- whether finding a label finds one
+found_told : (n : ℕ) (ls : List Label) (l : ℕ) → is_some (found_of n ls l) ≡ is_set ls l
 unfolding found_of pick
-found_told n ls l m e =
-    by_test (is_set ls l) (λ t. t) (λ t. let z : ◌≡◌ {A = ℕ} 0 1 = cc (rw t at e) in absurd (omega arith))
-
-missing_told : (n : ℕ) (ls : List Label) (l : ℕ) → Missing ≡ found_of n ls l → is_set ls l ≡ false
-unfolding found_of pick
-missing_told n ls l e =
-    by_test (is_set ls l) (λ t. let z : ◌≡◌ {A = ℕ} 0 1 = cc (rw t at e) in absurd (omega arith)) (λ t. t)
+found_told n ls l = by_test (is_set ls l) (λ t. rw t refl) (λ t. rw t refl)
 
 module _ (ms : List Label) (l : ℕ) (ls : List ℕ) where
   set_zero : l ≡ 0 → refusal 9 ≡ set_all ms (l ∷ ls)
@@ -81,21 +75,18 @@ module _ (ls : List ℕ) (n count l : ℕ) (few : n < instruction_numbers) (room
       let k = so_far i (omega arith) (omega (arith, g, same)) in omega (arith, same))
 
 module _ (l : List ℕ) (count n x : ℕ) where
-  pub zero_set : x ≡ 0 → SetsOne l count n x Refuses l
+  pub zero_set : x ≡ 0 → SetsOne l count n x (Err Refused) l
   zero_set e = record { kept = refl; in_rows = tt; told = λ room ls. set_zero (labels_of n count l) x ls e }
 
-  pub great_set : (x ≡ 0 → ⊥) → greatest_label < x → SetsOne l count n x Refuses l
+  pub great_set : (x ≡ 0 → ⊥) → greatest_label < x → SetsOne l count n x (Err Refused) l
   great_set e h = record { kept = refl; in_rows = tt; told = λ room ls. set_great (labels_of n count l) x ls e h }
 
   module _ (e : x ≡ 0 → ⊥) (h : x ≤ greatest_label) where
-    pub twice_set : (m : ℕ) → Number m ≡ found_of n (labels_of n count l) x → SetsOne l count n x Refuses l
-    twice_set m g = record { kept = refl; in_rows = tt; told = λ room ls. set_twice (labels_of n count l) x ls e h (found_told n (labels_of n count l) x m g) }
-
-    pub no_row : label_rows ≤ count → SetsOne l count n x NotFit l
-    no_row full = record { kept = refl; in_rows = tt; told = λ room. absurd (omega (arith, room.rows)) }
+    pub twice_set : is_some (found_of n (labels_of n count l) x) ≡ true → SetsOne l count n x (Err Refused) l
+    twice_set g = record { kept = refl; in_rows = tt; told = λ room ls. set_twice (labels_of n count l) x ls e h (sym (found_told n (labels_of n count l) x) ∙ g) }
 
     pub one_set : (after : List ℕ) → after ≡ set l count (x * spot_numbers + n % spot_numbers) → length after ≡ length l
-        → Missing ≡ found_of n (labels_of n count l) x → count < label_rows → SetsOne l count n x (Sets (count + 1)) after
+        → is_some (found_of n (labels_of n count l) x) ≡ false → count < label_rows → SetsOne l count n x (Ok (count + 1)) after
     one_set after put kept g row = record {
       kept = kept;
       in_rows = (refl, omega arith);
@@ -105,7 +96,7 @@ module _ (l : List ℕ) (count n x : ℕ) where
             counted = refl;
             others = λ ls.
                 rw (put, set_more l n count x room.few inside)
-                (set_turn (labels_of n count l) x ls e h (missing_told n (labels_of n count l) x g));
+                (set_turn (labels_of n count l) x ls e h (sym (found_told n (labels_of n count l) x) ∙ g));
             so_far = λ s. rw put (so_far_more l n count x room.few inside s);
           };
     }
@@ -120,11 +111,6 @@ module _ (l : List ℕ) (count n : ℕ) (f : ℕ → ℕ) (many : ℕ) where
   abbrev pub left : ℕ → List ℕ
   left i = each f i (many - i)
 
-  pub loop_none : Loop l count n (each f 0 many) (left 0) count 0 l
-  loop_none =
-      let all : many - 0 ≡ many = omega arith in
-      record { counted = omega arith; others = ap (λ k. set_all (labels_of n count l) (each f 0 k)) all; so_far = λ s. s }
-
   module _ (i set : ℕ) (now : List ℕ) (x : ℕ) (known : x ≡ f i) (h : i < many) where
     row : Room l (count + length (each f 0 many)) n → set ≡ count + i → length now ≡ length l → Room now (set + 1) n
     row room e same = record {
@@ -133,10 +119,10 @@ module _ (l : List ℕ) (count n : ℕ) (f : ℕ → ℕ) (many : ℕ) where
       few = room.few;
     }
 
-    pub loop_refused : (r : Set) (after : List ℕ) → r ≡ Refuses → length now ≡ length l → Room l (count + length (each f 0 many)) n
-        → Loop l count n (each f 0 many) (left i) set i now → SetsOne now set n x r after → SettingAll l count n (each f 0 many) Refuses after
-    loop_refused (Sets c) after e same room p one = let z : ◌≡◌ {A = ℕ} 0 1 = cc in absurd (omega arith)
-    loop_refused Refuses after e same room p one = record {
+    pub loop_fails : (r : Result ℕ Failure) (u : Failure) (after : List ℕ) → r ≡ Err u → length now ≡ length l → Room l (count + length (each f 0 many)) n
+        → Loop l count n (each f 0 many) (left i) set i now → SetsOne now set n x r after → SettingAll l count n (each f 0 many) (Err u) after
+    loop_fails (Ok c) u after e same room p one = absurd (cc)
+    loop_fails (Err Refused) Refused after e same room p one = record {
       told =
           one.told (row room p.counted same) (left (i + 1))
           ∙ ap (λ y. set_all (labels_of n set now) (y ∷ left (i + 1))) known
@@ -144,18 +130,13 @@ module _ (l : List ℕ) (count n : ℕ) (f : ℕ → ℕ) (many : ℕ) where
           ∙ p.others;
       so_far = λ s. tt;
     }
-    loop_refused NotFit after e same room p one = let z : ◌≡◌ {A = ℕ} 0 1 = cc in absurd (omega arith)
+    loop_fails (Err Refused) Unfit after e same room p one = absurd (cc)
+    loop_fails (Err Unfit) u after e same room p one = absurd (one.told (row room p.counted same))
 
-    pub loop_unfit : (r : Set) (after : List ℕ) → r ≡ NotFit → length now ≡ length l → Room l (count + length (each f 0 many)) n
-        → Loop l count n (each f 0 many) (left i) set i now → SetsOne now set n x r after → SettingAll l count n (each f 0 many) NotFit after
-    loop_unfit (Sets c) after e same room p one = let z : ◌≡◌ {A = ℕ} 0 1 = cc in absurd (omega arith)
-    loop_unfit Refuses after e same room p one = let z : ◌≡◌ {A = ℕ} 0 1 = cc in absurd (omega arith)
-    loop_unfit NotFit after e same room p one = absurd (one.told (row room p.counted same))
-
-    pub loop_more : (r : Set) (c : ℕ) (after : List ℕ) → r ≡ Sets c → length now ≡ length l → Room l (count + length (each f 0 many)) n
+    pub loop_more : (r : Result ℕ Failure) (c : ℕ) (after : List ℕ) → r ≡ Ok c → length now ≡ length l → Room l (count + length (each f 0 many)) n
         → Loop l count n (each f 0 many) (left i) set i now → SetsOne now set n x r after
         → Loop l count n (each f 0 many) (left (i + 1)) c (i + 1) after
-    loop_more (Sets d) c after e same room p one =
+    loop_more (Ok d) c after e same room p one =
         let here : d ≡ c = cc in
         let more = one.told (row room p.counted same) in
         record {
@@ -168,30 +149,16 @@ module _ (l : List ℕ) (count n : ℕ) (f : ℕ → ℕ) (many : ℕ) where
               ∙ p.others;
           so_far = λ s. rw (← here) (more.so_far (p.so_far s));
         }
-    loop_more Refuses c after e same room p one = let z : ◌≡◌ {A = ℕ} 0 1 = cc in absurd (omega arith)
-    loop_more NotFit c after e same room p one = let z : ◌≡◌ {A = ℕ} 0 1 = cc in absurd (omega arith)
+    loop_more (Err u) c after e same room p one = absurd (cc)
 
   pub loop_ends : (i set : ℕ) (now : List ℕ) → many ≤ i → Loop l count n (each f 0 many) (left i) set i now
-      → SettingAll l count n (each f 0 many) (Sets set) now
+      → SettingAll l count n (each f 0 many) (Ok set) now
   loop_ends i set now h p = record {
     told = set_over (labels_of n set now) ∙ ap (set_all (labels_of n set now)) (sym (each_over f i many h)) ∙ p.others;
     so_far = p.so_far;
   }
 
 -- ---- any table
-
-pub other_size : (size many s : ℕ) → (size ≡ label_rows → ⊥) → false ≡ fit size many s
-unfolding pick
-other_size size many s n = rw (ne_eqb size label_rows n) refl
-
-module _ (size many s : ℕ) (e : size ≡ label_rows) where
-  pub too_many_law : label_rows < many → false ≡ fit size many s
-  unfolding pick
-  too_many_law h = rw (eq-eqb size label_rows e, lt-leb many label_rows h) refl
-
-  pub whole_table : many ≤ label_rows → ltb s instruction_numbers ≡ fit size many s
-  unfolding pick
-  whole_table h = rw (eq-eqb size label_rows e, le-leb many label_rows h) refl
 
 module _ (l : List ℕ) (count n : ℕ) (ls : List ℕ) where
   fits : fit (length l) (count + length ls) n ≡ true → Room l (count + length ls) n
@@ -204,7 +171,7 @@ module _ (l : List ℕ) (count n : ℕ) (ls : List ℕ) where
         few = ltb-true n instruction_numbers two.1;
       }
 
-  pub set_fit : (t : Bool) → t ≡ fit (length l) (count + length ls) n → t ≡ true → (r : Set) (after : List ℕ)
+  pub set_fit : (t : Bool) → t ≡ fit (length l) (count + length ls) n → t ≡ true → (r : Result ℕ Failure) (after : List ℕ)
       → SetsAll l count n ls r after → SetsLabels l count n ls r after
   unfolding set_of pick
   set_fit t known e r after p =
@@ -212,7 +179,7 @@ module _ (l : List ℕ) (count n : ℕ) (ls : List ℕ) where
       let all = p.told (fits yes) in
       record { told = rw yes all.told; kept = p.kept; so_far = all.so_far }
 
-  pub set_unfit : (t : Bool) → t ≡ fit (length l) (count + length ls) n → t ≡ false → SetsLabels l count n ls NotFit l
+  pub set_unfit : (t : Bool) → t ≡ fit (length l) (count + length ls) n → t ≡ false → SetsLabels l count n ls (Err Unfit) l
   unfolding set_of pick
   set_unfit t known e = record { told = rw (sym known ∙ e) refl; kept = refl; so_far = λ s. tt }
 
@@ -232,7 +199,7 @@ module _ (ms : List Label) (ls : List ℕ) where
   unfolding pick
   not_set_all n e =
       by_test (can_set ms ls)
-      (λ t. let z : ◌≡◌ {A = ℕ} 1 0 = cc (rw t at e) in absurd (omega arith))
+      (λ t. let z = rw t at e in absurd (cc))
       (λ t. let same : n ≡ 9 = cc (rw t at e) in (t, same))
 
   pub set_together : (m : List Label) → labels m ≡ set_all ms ls → (can_set ms ls ≡ true) × (m ≡ ms ++ labels_set ls)
@@ -240,11 +207,11 @@ module _ (ms : List Label) (ls : List ℕ) where
   set_together m e =
       by_test (can_set ms ls)
       (λ t. let same : m ≡ ms ++ labels_set ls = cc (rw t at e) in (t, same))
-      (λ t. let z : ◌≡◌ {A = ℕ} 0 1 = cc (rw t at e) in absurd (omega arith))
+      (λ t. let z = rw t at e in absurd (cc))
 
   pub never_unfit : {A : Type 0} → unfit ≡ set_all ms ls → A
   unfolding pick
   never_unfit e =
       by_test (can_set ms ls)
-      (λ t. let z : ◌≡◌ {A = ℕ} 2 0 = cc (rw t at e) in absurd (omega arith))
-      (λ t. let z : ◌≡◌ {A = ℕ} 2 1 = cc (rw t at e) in absurd (omega arith))
+      (λ t. let z = rw t at e in absurd (cc))
+      (λ t. let z = rw t at e in absurd (cc))

@@ -1,18 +1,16 @@
 -- What finding, setting and moving labels comes to. `n` is the number of the instruction that comes next. Comments in quotes are
 -- document 01's words.
-use Rattle.std.specs.Prelude.{ℕ, ◌+◌, ◌≤◌, ◌<◌, Bool, false, ◌≡◌, List, ◌++◌, ltb, leb, eqb, length}
+use Rattle.std.specs.Prelude.{ℕ, ◌+◌, ◌≤◌, ◌<◌, Bool, false, ◌≡◌, List, ◌++◌, ltb, leb, eqb, length, Option, Some, None, Result, Ok, Err}
 use Rattle.base.specs.Choice.{pick}
 use Rattle.source.specs.Memory.{label_rows}
 use Rattle.source.specs.Program.{Label, is_set, can_set, labels_set, moved, put_off, taken_up, number_of}
-use Rattle.labels.specs.declared.Set.{Set}
-use Rattle.labels.specs.declared.Set.TheVariants.{Labels as Sets, Refused as Refuses, Unfit as NotFit}
-use Rattle.labels.specs.declared.Found.{Found}
-use Rattle.labels.specs.declared.Found.TheVariants.{Number, Missing}
+use Rattle.labels.specs.declared.Failure.{Failure}
+use Rattle.labels.specs.declared.Failure.TheVariants.{Refused, Unfit}
 use Rattle.labels.specs.Memory.{instruction_numbers, labels_of, SoFar}
 
--- the number of the instruction after a label
-unfoldable pub found_of : ℕ → List Label → ℕ → Found
-found_of n ls l = pick (is_set ls l) (Number (number_of n ls l)) Missing
+-- the number of the instruction after a label, if the label is set
+unfoldable pub found_of : ℕ → List Label → ℕ → Option ℕ
+found_of n ls l = pick (is_set ls l) (Some (number_of n ls l)) None
 
 -- ---- setting the labels of a statement
 
@@ -23,10 +21,10 @@ pub data Labels : Type 0 where
   unfit : Labels
 
 -- 9 "label 0 or over 9999, set twice, or never set"
-abbrev pub set_in : ℕ → Set → List ℕ → Labels
-set_in n (Sets c) l = labels (labels_of n c l)
-set_in n Refuses l = refusal 9
-set_in n NotFit l = unfit
+abbrev pub set_in : ℕ → Result ℕ Failure → List ℕ → Labels
+set_in n (Ok c) l = labels (labels_of n c l)
+set_in n (Err Refused) l = refusal 9
+set_in n (Err Unfit) l = unfit
 
 -- the labels ls set behind ms
 abbrev pub set_all : List Label → List ℕ → Labels
@@ -40,12 +38,11 @@ fit size many n = pick (eqb size label_rows) (pick (leb many label_rows) (ltb n 
 unfoldable pub set_of : ℕ → ℕ → List ℕ → List ℕ → Labels
 set_of n count l ls = pick (fit (length l) (count + length ls) n) (set_all (labels_of n count l) ls) unfit
 
-abbrev pub SoFarIn : ℕ → Set → List ℕ → Type 0
-SoFarIn n (Sets c) l = SoFar n c l
-SoFarIn n Refuses l = Unit {0}
-SoFarIn n NotFit l = Unit {0}
+abbrev pub SoFarIn : ℕ → Result ℕ Failure → List ℕ → Type 0
+SoFarIn n (Ok c) l = SoFar n c l
+SoFarIn n (Err e) l = Unit {0}
 
-pub record SetsLabels (before : List ℕ) (count n : ℕ) (ls : List ℕ) (r : Set) (after : List ℕ) : Type 0 where
+pub record SetsLabels (before : List ℕ) (count n : ℕ) (ls : List ℕ) (r : Result ℕ Failure) (after : List ℕ) : Type 0 where
   pub told : set_in n r after ≡ set_of n count before ls
   pub kept : length after ≡ length before
   pub so_far : SoFar n count before → SoFarIn n r after

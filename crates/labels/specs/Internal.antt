@@ -1,9 +1,9 @@
 -- What the private functions do.
-use Rattle.std.specs.Prelude.{ℕ, ◌+◌, ◌*◌, ◌/◌, ◌%◌, ◌≤◌, ◌<◌, List, ◌∷◌, ◌≡◌, eqb, length, get_or}
+use Rattle.std.specs.Prelude.{ℕ, ◌+◌, ◌*◌, ◌/◌, ◌%◌, ◌≤◌, ◌<◌, List, ◌∷◌, ◌≡◌, eqb, length, get_or, Result, Ok, Err}
 use Rattle.base.specs.Choice.{pick}
 use Rattle.source.specs.Memory.{label_rows}
-use Rattle.labels.specs.declared.Set.{Set}
-use Rattle.labels.specs.declared.Set.TheVariants.{Labels as Sets, Refused as Refuses, Unfit as NotFit}
+use Rattle.labels.specs.declared.Failure.{Failure}
+use Rattle.labels.specs.declared.Failure.TheVariants.{Refused, Unfit}
 use Rattle.labels.specs.Memory.{spot_numbers, instruction_numbers, labels_of, SoFar}
 use Rattle.labels.specs.Answers.{set_in, set_all, refusal, SoFarIn}
 
@@ -19,27 +19,26 @@ pub record OneMore (l : List ℕ) (count n label c : ℕ) (after : List ℕ) : T
   pub others : (ls : List ℕ) → set_all (labels_of n c after) ls ≡ set_all (labels_of n count l) (label ∷ ls)
   pub so_far : SoFar n count l → SoFar n c after
 
-abbrev pub OneIn : List ℕ → ℕ → ℕ → ℕ → Set → List ℕ → Type 0
-OneIn l count n label (Sets c) after = OneMore l count n label c after
-OneIn l count n label Refuses after = (ls : List ℕ) → refusal 9 ≡ set_all (labels_of n count l) (label ∷ ls)
-OneIn l count n label NotFit after = ⊥
+abbrev pub OneIn : List ℕ → ℕ → ℕ → ℕ → Result ℕ Failure → List ℕ → Type 0
+OneIn l count n label (Ok c) after = OneMore l count n label c after
+OneIn l count n label (Err Refused) after = (ls : List ℕ) → refusal 9 ≡ set_all (labels_of n count l) (label ∷ ls)
+OneIn l count n label (Err Unfit) after = ⊥
 
 -- a row of the table was left
-abbrev pub InRows : ℕ → Set → Type 0
-InRows count (Sets c) = (c ≡ count + 1) × (c ≤ label_rows)
-InRows count Refuses = Unit {0}
-InRows count NotFit = Unit {0}
+abbrev pub InRows : ℕ → Result ℕ Failure → Type 0
+InRows count (Ok c) = (c ≡ count + 1) × (c ≤ label_rows)
+InRows count (Err e) = Unit {0}
 
-pub record SetsOne (l : List ℕ) (count n label : ℕ) (r : Set) (after : List ℕ) : Type 0 where
+pub record SetsOne (l : List ℕ) (count n label : ℕ) (r : Result ℕ Failure) (after : List ℕ) : Type 0 where
   pub kept : length after ≡ length l
   pub in_rows : InRows count r
   pub told : Room l (count + 1) n → OneIn l count n label r after
 
-pub record SettingAll (l : List ℕ) (count n : ℕ) (ls : List ℕ) (r : Set) (after : List ℕ) : Type 0 where
+pub record SettingAll (l : List ℕ) (count n : ℕ) (ls : List ℕ) (r : Result ℕ Failure) (after : List ℕ) : Type 0 where
   pub told : set_in n r after ≡ set_all (labels_of n count l) ls
   pub so_far : SoFar n count l → SoFarIn n r after
 
-pub record SetsAll (l : List ℕ) (count n : ℕ) (ls : List ℕ) (r : Set) (after : List ℕ) : Type 0 where
+pub record SetsAll (l : List ℕ) (count n : ℕ) (ls : List ℕ) (r : Result ℕ Failure) (after : List ℕ) : Type 0 where
   pub kept : length after ≡ length l
   pub told : Room l (count + length ls) n → SettingAll l count n ls r after
 

@@ -7,7 +7,7 @@ use native.Mathlib.Omega.{arith}
 use borrow.Author.Tests.{lt-ltb, le-ltb, le-leb, lt-leb}
 use lib.Dec.{ltb}
 use lib.ListN.{length, get_or, take, drop, set, length-drop, length-append, take-append-drop, get_or-append}
-use lib.Seq.{sets, take-length, sets-eq, length-sets, take_at, drop_at, take-append-le, drop-append-le, length-take-le, get_or-set_same, get_or-set_other, get_or-append_seam, take-set-le}
+use lib.Seq.{sets, take-length, sets-eq, length-sets, take_at, drop_at, take-append-le, drop-append-le, length-take-le, get_or-append_seam, take-set-le}
 use borrow.Rule.Slice.PartMut.{put_mid}
 use Rattle.std.proofs.lemmas.Slice.{put_mid-paste}
 use Rattle.base.specs.Choice.{pick}
@@ -15,11 +15,11 @@ use Rattle.base.proofs.Cases.{by_test, by_less, by_equal}
 use Rattle.source.specs.Limits.{most_bytes, most_cells}
 use Rattle.source.specs.Memory.{name_rows, letters_in}
 use Rattle.source.proofs.Letters.{letters_append}
-use Rattle.name_index.specs.declared.Side.TheVariants.{Before}
+use Rattle.std.specs.declared.cmp.Ordering.TheVariants.{Less}
 use Rattle.name_index.specs.Order.{side_of}
 use Rattle.name_index.specs.Memory.{row_with, begin_in, many_in, number_in, name_in, name_at, RowOf, Indexed, NamesHeld}
 use Rattle.name_index.specs.Answers.{Fits, has_room}
-use Rattle.name_index.specs.Internal.{Inserted, Shifted}
+use Rattle.name_index.specs.Internal.{Inserted}
 use Rattle.name_index.proofs.Order.{after_before}
 
 -- ---- no names
@@ -62,30 +62,6 @@ module _ {ns : List (List ℕ)} {v filled : ℕ} {letters index : List ℕ} (hel
       let l = its_letters in
       rw (lt-leb (letters_in ns + length name) most_bytes (omega (arith, l, full)))
       (by_test (ltb (length ns) name_rows) (λ t. rw t refl) (λ t. rw t refl))
-
--- ---- rows moved by one
-
-pub shift_start : (v place : ℕ) (index : List ℕ) → place ≤ v → Shifted v place v index index
-shift_start v place index h = record { reached = h; before = λ j l. refl; behind = λ j l m. absurd (omega (arith, l, m)) }
-
-module _ {v place i : ℕ} {index after : List ℕ} (s : Shifted v place i index after) where
-  pub shift_turn : place < i → i ≤ v → v < length after → Shifted v place (i - 1) index (set after i (get_or after (i - 1) 0))
-  shift_turn h inside room = record {
-    reached = omega (arith, h);
-    before = λ j l. get_or-set_other after i j _ 0 (omega (arith, l, h)) ∙ s.before j (omega (arith, l));
-    behind = λ j l m.
-        by_equal j i
-        (λ e. rw e (get_or-set_same after i _ 0 (omega (arith, inside, room)) ∙ s.before (i - 1) (omega arith)))
-        (λ n. get_or-set_other after i j _ 0 n ∙ s.behind j (omega (arith, l, n, h)) m);
-  }
-
-  pub shift_end : i ≤ place → place < length after → (row : ℕ) → Inserted v place row index (set after place row)
-  shift_end h inside row =
-      let r = s.reached in record {
-        before = λ j l. get_or-set_other after place j row 0 (omega (arith, l)) ∙ s.before j (omega (arith, l, r));
-        here = get_or-set_same after place row 0 inside;
-        behind = λ j l m. get_or-set_other after place j row 0 (omega (arith, l)) ∙ s.behind j (omega (arith, l, h)) m;
-      }
 
 -- ---- letters put behind others
 
@@ -207,7 +183,7 @@ module _ {ns : List (List ℕ)} {v filled place : ℕ} {letters index after name
     name_behind : place < i → i ≤ v → name_at (stored letters filled name whole) after i ≡ name_at letters index (i - 1)
     name_behind h g = ap (name_in (stored letters filled name whole)) (inserted.behind i h g) ∙ old_name (get_or index (i - 1) 0) (held.rows (i - 1) (omega (arith, h, g)))
 
-  ordered_then : (i j : ℕ) → i < j → j < v + 1 → side_of (name_at (stored letters filled name whole) after i) (name_at (stored letters filled name whole) after j) ≡ Before
+  ordered_then : (i j : ℕ) → i < j → j < v + 1 → side_of (name_at (stored letters filled name whole) after i) (name_at (stored letters filled name whole) after j) ≡ Less
   ordered_then i j l h =
       let p = fits.inside in
       by_less j place

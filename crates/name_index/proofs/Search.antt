@@ -3,22 +3,22 @@ use Prim.Native.Nat.{ℕ, zero, suc, ◌+◌, ◌-◌, ◌/◌, ◌^◌, ◌<◌
 use mathlib.Core.Path.{◌≡◌, refl, sym, ap, ◌∙◌}
 use mathlib.Core.List.{List, [], ◌∷◌}
 use native.Mathlib.Omega.{arith}
-use native.Mathlib.Nat.{zero-add, add-zero, pow-suc}
+use native.Mathlib.Nat.{add-zero, pow-suc}
 use lib.Pow.{pow-add}
 use lib.ListN.{length, get_or}
 use Rattle.base.specs.Choice.{pick}
 use Rattle.base.proofs.Cases.{by_less}
 use Rattle.source.specs.Program.{word_from}
-use Rattle.name_index.specs.declared.Side.{Side}
-use Rattle.name_index.specs.declared.Side.TheVariants.{Before, Same, After}
+use Rattle.std.specs.declared.cmp.Ordering.{Ordering}
+use Rattle.std.specs.declared.cmp.Ordering.TheVariants.{Less, Equal, Greater}
 use Rattle.name_index.specs.Order.{side_of}
 use Rattle.name_index.specs.Memory.{number_in, name_at, NamesHeld}
 use Rattle.name_index.specs.Answers.{Searches, nowhere, here, first_half, second_half, side_at, word_at, FewComparisons, AsAsked, Fits}
-use Rattle.name_index.proofs.Order.{after_before, before_after, before_all, side_same, side_self, never_before_itself, not_same_before, not_same_after, not_both, same_name_self, other_name}
+use Rattle.name_index.proofs.Order.{after_before, before_after, before_all, side_same, side_self, never_before_itself, same_name_self, other_name}
 
 -- ---- the number of comparisons
 
-pub search_few : {side : ℕ → Side} {word : ℕ → ℕ} {from left w place n : ℕ} → Searches side word from left w place n → FewComparisons left n
+pub search_few : {side : ℕ → Ordering} {word : ℕ → ℕ} {from left w place n : ℕ} → Searches side word from left w place n → FewComparisons left n
 search_few (nowhere from) d h = omega arith
 search_few (here from left some e) zero h = absurd (omega (arith, some, h))
 search_few (here from left some e) (suc d) h = omega arith
@@ -46,17 +46,17 @@ pub at_128 : (v n : ℕ) → FewComparisons v n → v ≤ 128 → n ≤ 8
 at_128 v n few h = as_asked v n few 1 h
 
 -- the bound is met: among 2^d names, each of which the sought one stands before
-pub bound_met : (word : ℕ → ℕ) (d : ℕ) → Searches (λ i. Before) word 0 (2 ^ d) 0 0 (suc d)
+pub bound_met : (word : ℕ → ℕ) (d : ℕ) → Searches (λ i. Less) word 0 (2 ^ d) 0 0 (suc d)
 bound_met word zero = first_half 0 1 (omega arith) refl (nowhere 0)
 bound_met word (suc d) =
     let some = power_some (suc d) in
     let half : 2 ^ suc d / 2 ≡ 2 ^ d = rw (pow-suc 2 d) (omega arith) in
-    let rest : Searches (λ i. Before) word 0 (2 ^ suc d / 2) 0 0 (suc d) = rw half (bound_met word d) in
+    let rest : Searches (λ i. Less) word 0 (2 ^ suc d / 2) 0 0 (suc d) = rw half (bound_met word d) in
     first_half 0 (2 ^ suc d) some refl rest
 
 -- ---- there is one search
 
-pub search_only : {side : ℕ → Side} {word : ℕ → ℕ} {from left w place n w' place' n' : ℕ} → Searches side word from left w place n
+pub search_only : {side : ℕ → Ordering} {word : ℕ → ℕ} {from left w place n w' place' n' : ℕ} → Searches side word from left w place n
     → Searches side word from left w' place' n' → (w ≡ w') × (place ≡ place') × (n ≡ n')
 search_only (nowhere from) (nowhere at) = (refl, refl, refl)
 search_only (nowhere from) (here at left some e) = absurd (omega (arith, some))
@@ -64,61 +64,58 @@ search_only (nowhere from) (first_half at left some e s) = absurd (omega (arith,
 search_only (nowhere from) (second_half at left some e s) = absurd (omega (arith, some))
 search_only (here from left some e) (nowhere at) = absurd (omega (arith, some))
 search_only (here from left some e) (here at rest more g) = (refl, refl, refl)
-search_only (here from left some e) (first_half at rest more g t) = not_same_before e g
-search_only (here from left some e) (second_half at rest more g t) = not_same_after e g
+search_only (here from left some e) (first_half at rest more g t) = absurd (cc)
+search_only (here from left some e) (second_half at rest more g t) = absurd (cc)
 search_only (first_half from left some e s) (nowhere at) = absurd (omega (arith, some))
-search_only (first_half from left some e s) (here at rest more g) = not_same_before g e
+search_only (first_half from left some e s) (here at rest more g) = absurd (cc)
 search_only (first_half from left some e s) (first_half at rest more g t) = let h = search_only s t in (h.0, h.1, ap suc h.2)
-search_only (first_half from left some e s) (second_half at rest more g t) = not_both e g
+search_only (first_half from left some e s) (second_half at rest more g t) = absurd (cc)
 search_only (second_half from left some e s) (nowhere at) = absurd (omega (arith, some))
-search_only (second_half from left some e s) (here at rest more g) = not_same_after g e
-search_only (second_half from left some e s) (first_half at rest more g t) = not_both g e
+search_only (second_half from left some e s) (here at rest more g) = absurd (cc)
+search_only (second_half from left some e s) (first_half at rest more g t) = absurd (cc)
 search_only (second_half from left some e s) (second_half at rest more g t) = let h = search_only s t in (h.0, h.1, ap suc h.2)
 
 -- ---- the turns of the loop
 
 -- a search of what is left goes on to one of all, behind the comparisons made so far
-abbrev pub GoesOn : (ℕ → Side) → (ℕ → ℕ) → ℕ → ℕ → ℕ → ℕ → Type 0
+abbrev pub GoesOn : (ℕ → Ordering) → (ℕ → ℕ) → ℕ → ℕ → ℕ → ℕ → Type 0
 GoesOn side word v from left made = (w place n : ℕ) → Searches side word from left w place n → Searches side word 0 v w place (made + n)
 
-pub search_start : (side : ℕ → Side) (word : ℕ → ℕ) (v : ℕ) → GoesOn side word v 0 v 0
-search_start side word v w place n s = rw (zero-add n) s
-
-module _ {side : ℕ → Side} {word : ℕ → ℕ} {v from left : ℕ} (made : ℕ) (goes : GoesOn side word v from left made) where
+module _ {side : ℕ → Ordering} {word : ℕ → ℕ} {v from left : ℕ} (made : ℕ) (goes : GoesOn side word v from left made) where
   pub search_over : left ≤ 0 → Searches side word 0 v 0 from made
   search_over h =
       let none : left ≡ 0 = omega (arith, h) in
       rw (← add-zero made) (goes 0 from 0 (rw none (nowhere from)))
 
   module _ (some : 0 < left) where
-    pub search_here : (w : ℕ) → w ≡ word (from + left / 2) → side (from + left / 2) ≡ Same → Searches side word 0 v w (from + left / 2) (made + 1)
+    pub search_here : (w : ℕ) → w ≡ word (from + left / 2) → side (from + left / 2) ≡ Equal → Searches side word 0 v w (from + left / 2) (made + 1)
     search_here w same_word_law e = goes w _ 1 (rw same_word_law (here from left some e))
 
-    pub search_first : side (from + left / 2) ≡ Before → GoesOn side word v from (left / 2) (made + 1)
+    pub search_first : side (from + left / 2) ≡ Less → GoesOn side word v from (left / 2) (made + 1)
     search_first e w place n s = let z : made + 1 + n ≡ made + suc n = omega arith in rw z (goes w place (suc n) (first_half from left some e s))
 
-    pub search_second : side (from + left / 2) ≡ After → GoesOn side word v (from + (left / 2 + 1)) (left - (left / 2 + 1)) (made + 1)
+    pub search_second : side (from + left / 2) ≡ Greater → GoesOn side word v (from + (left / 2 + 1)) (left - (left / 2 + 1)) (made + 1)
     search_second e w place n s = let z : made + 1 + n ≡ made + suc n = omega arith in rw z (goes w place (suc n) (second_half from left some e s))
 
 -- ---- where it ends
 
-pub data Ends (side : ℕ → Side) (word : ℕ → ℕ) (from left w place : ℕ) : Type 0 where
-  missing : w ≡ 0 → from ≤ place → place ≤ from + left → ((i : ℕ) → from ≤ i → i < place → side i ≡ After)
-      → ((i : ℕ) → place ≤ i → i < from + left → side i ≡ Before) → Ends side word from left w place
-  present : w ≡ word place → from ≤ place → place < from + left → side place ≡ Same → Ends side word from left w place
+pub data Ends (side : ℕ → Ordering) (word : ℕ → ℕ) (from left w place : ℕ) : Type 0 where
+  missing : w ≡ 0 → from ≤ place → place ≤ from + left → ((i : ℕ) → from ≤ i → i < place → side i ≡ Greater)
+      → ((i : ℕ) → place ≤ i → i < from + left → side i ≡ Less) → Ends side word from left w place
+  present : w ≡ word place → from ≤ place → place < from + left → side place ≡ Equal → Ends side word from left w place
 
 -- among places whose names are in order
-module _ (name : List ℕ) (at : ℕ → List ℕ) (v : ℕ) (ordered : (i j : ℕ) → i < j → j < v → side_of (at i) (at j) ≡ Before) where
-  abbrev side : ℕ → Side
+module _ (name : List ℕ) (at : ℕ → List ℕ) (v : ℕ) (ordered : (i j : ℕ) → i < j → j < v → side_of (at i) (at j) ≡ Less) where
+  abbrev side : ℕ → Ordering
   side i = side_of name (at i)
 
-  before_too : (m i : ℕ) → m ≤ i → i < v → side m ≡ Before → side i ≡ Before
+  before_too : (m i : ℕ) → m ≤ i → i < v → side m ≡ Less → side i ≡ Less
   before_too m i h g e =
       by_less m i
       (λ l. before_all name (at m) (at i) e (ordered m i l g))
       (λ l. let z : m ≡ i = omega (arith, h, l) in rw (← z) e)
 
-  after_too : (m i : ℕ) → i ≤ m → m < v → side m ≡ After → side i ≡ After
+  after_too : (m i : ℕ) → i ≤ m → m < v → side m ≡ Greater → side i ≡ Greater
   after_too m i h g e =
       by_less i m
       (λ l. before_after (at i) name (before_all (at i) (at m) name (ordered i m l g) (after_before name (at m) e)))
@@ -191,12 +188,12 @@ module _ {ns : List (List ℕ)} {v filled : ℕ} {letters index : List ℕ} (hel
       (λ k l g.
       let its = held.indexed k (let c = held.counted in omega (arith, c, l)) in
       let its_row = held.rows its.place its.inside in
-      let same_side : side_at name letters index its.place ≡ Same = side_is (sym g ∙ sym (ap (λ j. get_or ns j []) its.numbered) ∙ sym its_row.named) in
+      let same_side : side_at name letters index its.place ≡ Equal = side_is (sym g ∙ sym (ap (λ j. get_or ns j []) its.numbered) ∙ sym its_row.named) in
       by_less its.place place
-      (λ m. not_same_after same_side (behind its.place (omega arith) m))
-      (λ m. let c = its.inside in not_same_before same_side (before its.place m (omega (arith, c)))))
+      (λ m. let z = behind its.place (omega arith) m in absurd (cc))
+      (λ m. let c = its.inside in let z = before its.place m (omega (arith, c)) in absurd (cc)))
     where
-      side_is : {m : List ℕ} → name ≡ m → side_of name m ≡ Same
+      side_is : {m : List ℕ} → name ≡ m → side_of name m ≡ Equal
       side_is e = ap (side_of name) (sym e) ∙ side_self name
 
   -- a lookup tells the word of a name

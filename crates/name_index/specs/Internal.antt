@@ -1,9 +1,9 @@
 -- What the private functions do.
 use Rattle.std.specs.Prelude.{ℕ, ◌-◌, ◌≤◌, ◌<◌, ◌≡◌, List, eqb, length, get_or}
 use Rattle.base.specs.Choice.{pick}
-use Rattle.name_index.specs.declared.Side.{Side}
-use Rattle.name_index.specs.declared.Side.TheVariants.{Same}
-use Rattle.name_index.specs.Order.{letter_side}
+use Rattle.std.specs.declared.cmp.Ordering.{Ordering}
+use Rattle.std.specs.declared.cmp.Ordering.TheVariants.{Equal}
+use Rattle.std.specs.Ordering.{nat_cmp}
 
 -- a row stands at a place among v others, of which those behind it have moved by one
 pub record Inserted (v place row : ℕ) (index after : List ℕ) : Type 0 where
@@ -21,5 +21,5 @@ pub record Shifted (v place i : ℕ) (index after : List ℕ) : Type 0 where
   pub behind : (j : ℕ) → i < j → j ≤ v → get_or after j 0 ≡ get_or index (j - 1) 0
 
 -- where two names stand, if what is behind place `last` is the same and the letters before it decide
-abbrev pub decided_at : List ℕ → List ℕ → ℕ → Side
-decided_at a b last = pick (eqb last 0) Same (letter_side (get_or a (last - 1) 0) (get_or b (last - 1) 0))
+abbrev pub decided_at : List ℕ → List ℕ → ℕ → Ordering
+decided_at a b last = pick (eqb last 0) Equal (nat_cmp (get_or a (last - 1) 0) (get_or b (last - 1) 0))

@@ -3,7 +3,7 @@
 use Rattle.std.specs.Prelude.{ℕ, ◌+◌, ◌*◌, ◌/◌, ◌%◌, ◌≤◌, ◌<◌, ◌≡◌, List, [], length, get_or, take, drop}
 use Rattle.source.specs.Limits.{most_bytes, most_cells}
 use Rattle.source.specs.Memory.{name_rows, letters_in}
-use Rattle.name_index.specs.declared.Side.TheVariants.{Before}
+use Rattle.std.specs.declared.cmp.Ordering.TheVariants.{Less}
 use Rattle.name_index.specs.Order.{side_of}
 
 -- a row: where the letters of a name begin, times most_cells, and how many there are; that times name_rows, and the number of the
@@ -44,7 +44,7 @@ pub record NamesHeld (ns : List (List ℕ)) (v filled : ℕ) (letters index : Li
   pub counted : v ≡ length ns
   pub lettered : filled ≡ letters_in ns
   pub rows : (i : ℕ) → i < v → RowOf ns filled letters (get_or index i 0)
-  pub ordered : (i j : ℕ) → i < j → j < v → side_of (name_at letters index i) (name_at letters index j) ≡ Before
+  pub ordered : (i j : ℕ) → i < j → j < v → side_of (name_at letters index i) (name_at letters index j) ≡ Less
   pub indexed : (k : ℕ) → k < v → Indexed index v k
   pub room_for_letters : length letters ≡ most_bytes
   pub room_for_rows : length index ≡ name_rows

@@ -3,26 +3,18 @@
 // the number of the name, from 0.
 #![tactic(auto)]
 
-ghost use Rattle.std.specs.Prelude.{◌≡◌, ◌<◌, max, eqb, length};
-ghost use Rattle.base.specs.Choice.{pick};
+ghost use Rattle.std.specs.Prelude.{◌≡◌, ◌<◌, ◌==◌, if◌then◌else◌, length};
 ghost use Rattle.source.specs.Limits.{most_cells};
-ghost use Rattle.name_index.specs.Order.{letter_side, side_of};
+ghost use Rattle.name_index.specs.Order.{side_of};
 ghost use Rattle.name_index.specs.Answers.{Searches, side_at, word_at, FewComparisons, FindsWord, Adds};
 ghost use Rattle.name_index.specs.Internal.{Inserts};
 
-use base::part;
+use base::{at, part, put};
 use source::{MOST_BYTES, MOST_CELLS, NAME_ROWS};
+use std::cmp::Ordering;
 
-// Where one name stands against another.
-#[derive(Clone, Copy)]
-pub enum Side {
-    Before,
-    Same,
-    After,
-}
-
-// What a lookup tells: the word of a name, or 0 where it is unknown; its place in the index, or where it would stand; and how many
-// comparisons were made.
+// What a lookup tells: the word of a name, or 0 where it is unknown, as a token carries it; its place in the index, or where it
+// would stand; and how many comparisons were made.
 #[derive(Clone, Copy)]
 pub struct Found {
     pub word: u32,
@@ -30,89 +22,61 @@ pub struct Found {
     pub comparisons: u32,
 }
 
-// How many names there are now, and how many letters they have; or that there is no room for one more.
+// How many names there are, and how many letters they have.
 #[derive(Clone, Copy)]
-pub enum Added {
-    Names(u32, u32),
-    Unfit,
+pub struct Names {
+    pub count: u32,
+    pub letters: u32,
 }
 
-// Which of two letters is less.
-fn letter_side(a: u8, b: u8) -> Side
-    ensures { result ≡ letter_side a b }
-{
-    if a < b {
-        return Side::Before;
-    }
-    if b < a {
-        return Side::After;
-    }
-    Side::Same
-}
+// There is no room for one more.
+#[derive(Clone, Copy)]
+pub struct Unfit;
 
 // A place in a name, from 1 on: a name in memory has fewer than MOST_CELLS letters.
 type Place = u8;
 
 // A place where two letters differ, else 0.
 fn differing(a: u8, b: u8, place: Place) -> Place
-    ensures { result ≡ pick (eqb a b) 0 place }
+    ensures { result ≡ (if a == b then 0 else place) }
 {
-    if a == b {
-        return 0;
-    }
-    place
-}
-
-// The larger of two places.
-fn further(a: Place, b: Place) -> Place
-    ensures { result ≡ max a b }
-{
-    if a < b {
-        return b;
-    }
-    a
+    if a == b { 0 } else { place }
 }
 
 // Compares two names of one length by the last letter in which they differ. The loop goes over all letters, whatever they are, so
 // that the machine can take many at once.
-fn by_letters(a: &[u8], b: &[u8]) -> Side
+fn by_letters(a: &[u8], b: &[u8]) -> Ordering
     requires { (length a.now ≡ length b.now) × (length b.now < most_cells) }
     ensures { result ≡ side_of a.now b.now }
 {
-    let mut i = 0;
     let mut last: Place = 0;
-    while i < a.len() {
-        last = further(last, differing(a[i], b[i], (i + 1) as Place));
-        i += 1;
+    for (i, &letter) in a.iter().enumerate() {
+        last = last.max(differing(letter, b[i], (i + 1) as Place));
     }
     if last == 0 {
-        return Side::Same;
+        return Ordering::Equal;
     }
     let k = last as usize - 1;
-    letter_side(a[k], b[k])
+    a[k].cmp(&b[k])
 }
 
 // Compares the name a with the name b, which has fewer than MOST_CELLS letters, as every name in memory. Most names that differ have
 // other lengths or other last letters: these are compared first.
-pub fn compare(a: &[u8], b: &[u8]) -> Side
+pub fn compare(a: &[u8], b: &[u8]) -> Ordering
     requires { length b.now < most_cells }
     ensures { result ≡ side_of a.now b.now }
 {
-    if a.len() < b.len() {
-        return Side::Before;
+    let by_length = a.len().cmp(&b.len());
+    if by_length.is_ne() {
+        return by_length;
     }
-    if b.len() < a.len() {
-        return Side::After;
-    }
-    if a.len() == 0 {
-        return Side::Same;
+    if a.is_empty() {
+        return Ordering::Equal;
     }
     let k = a.len() - 1;
-    if a[k] < b[k] {
-        return Side::Before;
-    }
-    if b[k] < a[k] {
-        return Side::After;
+    let by_last = a[k].cmp(&b[k]);
+    if by_last.is_ne() {
+        return by_last;
     }
     by_letters(a, b)
 }
@@ -128,7 +92,7 @@ pub fn find(letters: &[u8], index: &[u32], v: u32, name: &[u8]) -> Found
     let mut comparisons: u32 = 0;
     while 0 < left {
         let half = left / 2;
-        let row = base::word_at(index, from + half);
+        let row = at(index, from + half, 0);
         let declared = part(
             letters,
             row as usize / NAME_ROWS / MOST_CELLS,
@@ -136,13 +100,13 @@ pub fn find(letters: &[u8], index: &[u32], v: u32, name: &[u8]) -> Found
         );
         comparisons += 1;
         match compare(name, declared) {
-            Side::Before => left = half,
-            Side::Same => return Found {
+            Ordering::Less => left = half,
+            Ordering::Equal => return Found {
                 word: row % NAME_ROWS as u32 + 2,
                 place: from + half,
                 comparisons,
             },
-            Side::After => {
+            Ordering::Greater => {
                 from += half + 1;
                 left -= half + 1;
             }
@@ -155,46 +119,46 @@ pub fn find(letters: &[u8], index: &[u32], v: u32, name: &[u8]) -> Found
     }
 }
 
-// Puts a row at a place among v others, those from there on behind it.
+// Puts a row at a place among v others, those from there on behind it. `copy_within` would ask for an index that has the places.
 fn insert(index: &mut [u32], v: usize, place: usize, row: u32)
     ensures { Inserts v place row index.old index.new }
 {
-    let mut i = v;
-    while place < i {
-        let other = base::word_at(index, i - 1);
-        base::put_word(index, i, other);
-        i -= 1;
+    for i in (place..v).rev() {
+        put(index, i + 1, at(index, i, 0));
     }
-    base::put_word(index, place, row);
+    put(index, place, row);
 }
 
-// Adds a name behind v others, which have so many letters, with its row at a place of the index.
+// Adds a name behind others, with its row at a place of the index.
 pub fn add(
     letters: &mut [u8],
     index: &mut [u32],
-    v: u32,
-    filled: u32,
+    others: Names,
     place: usize,
     name: &[u8],
-) -> Added
-    ensures { Adds v filled place name.now letters.old index.old result letters.new index.new }
+) -> Result<Names, Unfit>
+    ensures { Adds others.count others.letters place name.now letters.old index.old result letters.new index.new }
 {
+    let v = others.count;
     if NAME_ROWS <= v as usize {
-        return Added::Unfit;
+        return Err(Unfit);
     }
     if letters.len() != MOST_BYTES {
-        return Added::Unfit;
+        return Err(Unfit);
     }
-    let at = filled as usize;
-    if MOST_BYTES < at {
-        return Added::Unfit;
+    let begin = others.letters as usize;
+    if MOST_BYTES < begin {
+        return Err(Unfit);
     }
-    if MOST_BYTES - at < name.len() {
-        return Added::Unfit;
+    if MOST_BYTES - begin < name.len() {
+        return Err(Unfit);
     }
-    letters[at..at + name.len()].copy_from_slice(name);
+    letters[begin..begin + name.len()].copy_from_slice(name);
     let many = (name.len() % MOST_CELLS) as u32;
-    let row = (filled * MOST_CELLS as u32 + many) * NAME_ROWS as u32 + v;
+    let row = (others.letters * MOST_CELLS as u32 + many) * NAME_ROWS as u32 + v;
     insert(index, v as usize, place, row);
-    Added::Names(v + 1, filled + name.len() as u32)
+    Ok(Names {
+        count: v + 1,
+        letters: others.letters + name.len() as u32,
+    })
 }

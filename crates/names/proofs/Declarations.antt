@@ -18,12 +18,13 @@ use Rattle.source.specs.Program.{word_of, can_declare, names_in}
 use Rattle.source.specs.Memory.{lexeme_of, lexemes_from, name_rows, letters_in}
 use Rattle.source.proofs.Stored.{lexemes_each}
 use Rattle.source.proofs.Letters.{letters_append}
-use Rattle.name_index.specs.declared.Added.{Added}
-use Rattle.name_index.specs.declared.Added.TheVariants.{Names as Adding, Unfit as NotAdded}
+use Rattle.std.proofs.Common.{Result, Ok, Err}
+use Rattle.name_index.specs.declared.Names.{Names as Counts}
+use Rattle.name_index.specs.declared.Unfit.{Unfit as NotAdded}
 use Rattle.name_index.specs.Memory.{NamesHeld}
 use Rattle.name_index.specs.Answers.{has_room, AddedTo}
-use Rattle.names.specs.declared.Declared.{Declared}
-use Rattle.names.specs.declared.Declared.TheVariants.{Names as Declaring, Refused, Unfit}
+use Rattle.names.specs.declared.Failure.{Failure}
+use Rattle.names.specs.declared.Failure.TheVariants.{Refused, Unfit}
 use Rattle.names.specs.Answers.{Names, names, refusal, unfit, declared_of, Tells, declares, refuses, no_room}
 use Rattle.names.specs.Internal.{NamesSoFar}
 
@@ -43,18 +44,18 @@ module _ (ms : List (List ℕ)) (n : List ℕ) where
     unfolding declared_of pick
     without_room r = rw (eq-eqb (word_of ms n) 0 new, r) refl
 
-module _ (ms : List (List ℕ)) (n : List ℕ) (new : word_of ms n ≡ 0) {letters index : List ℕ} (r : Added) (added : AddedTo ms n r letters index) where
-  pub is_added : (v filled : ℕ) → r ≡ Adding v filled → Tells letters index (Declaring v filled) (declared_of ms (n ∷ []))
-  is_added v filled e =
-      let one : (has_room ms n ≡ true) × NamesHeld (ms ++ n ∷ []) v filled letters index = rw e at added in
-      rw (with_room ms n new one.0) (declares (ms ++ n ∷ []) v filled one.1)
+module _ (ms : List (List ℕ)) (n : List ℕ) (new : word_of ms n ≡ 0) {letters index : List ℕ} (r : Result Counts NotAdded) (added : AddedTo ms n r letters index) where
+  pub is_added : (c : Counts) → r ≡ Ok c → Tells letters index (Ok c) (declared_of ms (n ∷ []))
+  is_added c e =
+      let one : (has_room ms n ≡ true) × NamesHeld (ms ++ n ∷ []) c.count c.letters letters index = rw e at added in
+      rw (with_room ms n new one.0) (declares (ms ++ n ∷ []) c one.1)
 
-  pub is_not_added : r ≡ NotAdded → Tells letters index Unfit (declared_of ms (n ∷ []))
+  pub is_not_added : {u : NotAdded} → r ≡ Err u → Tells letters index (Err Unfit) (declared_of ms (n ∷ []))
   is_not_added e =
       let full : has_room ms n ≡ false = rw e at added in
       rw (without_room ms n new full) no_room
 
-pub is_twice : (ms : List (List ℕ)) (n letters index : List ℕ) → (word_of ms n ≡ 0 → ⊥) → Tells letters index Refused (declared_of ms (n ∷ []))
+pub is_twice : (ms : List (List ℕ)) (n letters index : List ℕ) → (word_of ms n ≡ 0 → ⊥) → Tells letters index (Err Refused) (declared_of ms (n ∷ []))
 is_twice ms n letters index e = rw (twice ms n e) refuses
 
 -- ---- the name that a token is
@@ -68,9 +69,9 @@ module _ (cells : List ℕ) (k v : ℕ) (n : List ℕ) (e : n ≡ take (v % most
   unfolding lexeme_of names_in pick
   one_name z = rw (eq-eqb k 0 z, e) refl
 
-pub none_declared : {ms : List (List ℕ)} {v filled : ℕ} {letters index : List ℕ} → NamesHeld ms v filled letters index → Tells letters index (Declaring v filled) (declared_of ms [])
+pub none_declared : {ms : List (List ℕ)} (c : Counts) {letters index : List ℕ} → NamesHeld ms c.count c.letters letters index → Tells letters index (Ok c) (declared_of ms [])
 unfolding declared_of
-none_declared {ms} {v} {filled} held = declares ms v filled held
+none_declared {ms} c held = declares ms c held
 
 -- ---- one after the other
 
@@ -88,37 +89,35 @@ declared_on ms (name n) xs =
     (λ t. rw t refl)
 
 -- what an answer says of what it stands for
-abbrev pub Says : List ℕ → List ℕ → Declared → Names → Type 0
-Says letters index (Declaring v filled) o = (ms : List (List ℕ)) × NamesHeld ms v filled letters index × (o ≡ names ms)
-Says letters index Refused o = o ≡ refusal 8
-Says letters index Unfit o = o ≡ unfit
+abbrev pub Says : List ℕ → List ℕ → Result Counts Failure → Names → Type 0
+Says letters index (Ok c) o = (ms : List (List ℕ)) × NamesHeld ms c.count c.letters letters index × (o ≡ names ms)
+Says letters index (Err Refused) o = o ≡ refusal 8
+Says letters index (Err Unfit) o = o ≡ unfit
 
-pub says : {letters index : List ℕ} {r : Declared} {o : Names} → Tells letters index r o → Says letters index r o
-says (declares ms v filled h) = (ms, h, refl)
+pub says : {letters index : List ℕ} {r : Result Counts Failure} {o : Names} → Tells letters index r o → Says letters index r o
+says (declares ms c h) = (ms, h, refl)
 says refuses = refl
 says no_room = refl
 
 module _ (f : ℕ → Lexeme) (n i : ℕ) (h : i < n) {ms all : List (List ℕ)} {v filled : ℕ} {letters index after_letters after_index : List ℕ}
-    (so_far : NamesSoFar ms all (names_in (each f i (n - i))) v filled letters index) {r : Declared}
+    (so_far : NamesSoFar ms all (names_in (each f i (n - i))) v filled letters index) {r : Result Counts Failure}
     (one : Tells after_letters after_index r (declared_of so_far.names_too (names_in (f i ∷ [])))) where
   on : declared_of so_far.names_too (names_in (each f i (n - i))) ≡ on_names (declared_of so_far.names_too (names_in (f i ∷ []))) (λ m. declared_of m (names_in (each f (i + 1) (n - (i + 1)))))
   on = ap (λ xs. declared_of so_far.names_too (names_in xs)) (each_more f i n h) ∙ declared_on so_far.names_too (f i) (each f (i + 1) (n - (i + 1)))
 
-  pub declare_turn : (c m : ℕ) → r ≡ Declaring c m → NamesSoFar ms all (names_in (each f (i + 1) (n - (i + 1)))) c m after_letters after_index
-  declare_turn c m e =
+  pub declare_turn : (c : Counts) → r ≡ Ok c → NamesSoFar ms all (names_in (each f (i + 1) (n - (i + 1)))) c.count c.letters after_letters after_index
+  declare_turn c e =
       let s = says (rw e at one) in record {
         names_too = s.0;
         held = s.1;
         same = sym (on ∙ ap (λ o. on_names o (λ k. declared_of k (names_in (each f (i + 1) (n - (i + 1)))))) s.2) ∙ so_far.same;
       }
 
-  pub declare_fails : r ≡ Refused → Tells after_letters after_index Refused (declared_of ms all)
-  declare_fails e =
+  pub declare_fails : (e : Failure) → r ≡ Err e → Tells after_letters after_index (Err e) (declared_of ms all)
+  declare_fails Refused e =
       let s = says (rw e at one) in
       rw (← so_far.same, on ∙ ap (λ o. on_names o (λ k. declared_of k (names_in (each f (i + 1) (n - (i + 1)))))) s) refuses
-
-  pub declare_unfit : r ≡ Unfit → Tells after_letters after_index Unfit (declared_of ms all)
-  declare_unfit e =
+  declare_fails Unfit e =
       let s = says (rw e at one) in
       rw (← so_far.same, on ∙ ap (λ o. on_names o (λ k. declared_of k (names_in (each f (i + 1) (n - (i + 1)))))) s) no_room
 
@@ -130,12 +129,12 @@ declare_start {ms} cells ks vs n h = record {
   same = ap (λ xs. declared_of ms (names_in xs)) (rw (sub-zero n) (sym (lexemes_each 0 n cells ks vs)));
 }
 
-pub declare_end : {ms all : List (List ℕ)} {v filled : ℕ} {letters index : List ℕ} (f : ℕ → Lexeme) (n i : ℕ) → n ≤ i
-    → NamesSoFar ms all (names_in (each f i (n - i))) v filled letters index → Tells letters index (Declaring v filled) (declared_of ms all)
+pub declare_end : {ms all : List (List ℕ)} (c : Counts) {letters index : List ℕ} (f : ℕ → Lexeme) (n i : ℕ) → n ≤ i
+    → NamesSoFar ms all (names_in (each f i (n - i))) c.count c.letters letters index → Tells letters index (Ok c) (declared_of ms all)
 unfolding declared_of names_in
-declare_end {v = v} {filled = filled} f n i h s =
+declare_end c f n i h s =
     let none : names s.names_too ≡ declared_of s.names_too (names_in (each f i (n - i))) = rw (each_over f i n h) refl in
-    rw (← s.same, ← none) (declares s.names_too v filled s.held)
+    rw (← s.same, ← none) (declares s.names_too c s.held)
 
 -- ---- with room for all
 
@@ -153,16 +152,6 @@ declared_all ms (n ∷ ns) h g =
     (rest ∙ ap (λ l. pick (can_declare (ms ++ n ∷ []) ns) (names l) (refusal 8)) (append_assoc ms (n ∷ []) ns)))
     (λ t. rw t refl)
 
-abbrev case_number : Names → ℕ
-case_number (names ms) = 0
-case_number (refusal n) = 1
-case_number unfit = 2
-
-abbrev names_or : List (List ℕ) → Names → List (List ℕ)
-names_or d (names ms) = ms
-names_or d (refusal n) = d
-names_or d unfit = d
-
 module _ (ms ns : List (List ℕ)) (rows : length ms + length ns ≤ name_rows) (room : letters_in ms + letters_in ns ≤ most_bytes) where
   told_all : {o : Names} → declared_of ms ns ≡ o → pick (can_declare ms ns) (names (ms ++ ns)) (refusal 8) ≡ o
   told_all e = sym (declared_all ms ns rows room) ∙ e
@@ -171,17 +160,16 @@ module _ (ms ns : List (List ℕ)) (rows : length ms + length ns ≤ name_rows) 
   unfolding pick
   all_declared m e =
       by_test (can_declare ms ns)
-      (λ t. (t, sym (ap (names_or m) (rw t at (told_all e)))))
-      (λ t. let z : ◌≡◌ {A = ℕ} 1 0 = ap case_number (rw t at (told_all e)) in absurd (omega arith))
+      (λ t. let z = rw t at (told_all e) in (t, cc))
+      (λ t. let z = rw t at (told_all e) in absurd (cc))
 
   pub not_declared : declared_of ms ns ≡ refusal 8 → can_declare ms ns ≡ false
   unfolding pick
-  not_declared e =
-      by_test (can_declare ms ns) (λ t. let z : ◌≡◌ {A = ℕ} 0 1 = ap case_number (rw t at (told_all e)) in absurd (omega arith)) (λ t. t)
+  not_declared e = by_test (can_declare ms ns) (λ t. let z = rw t at (told_all e) in cc) (λ t. t)
 
   pub always_room : {A : Type 0} → declared_of ms ns ≡ unfit → A
   unfolding pick
   always_room e =
       by_test (can_declare ms ns)
-      (λ t. let z : ◌≡◌ {A = ℕ} 0 2 = ap case_number (rw t at (told_all e)) in absurd (omega arith))
-      (λ t. let z : ◌≡◌ {A = ℕ} 1 2 = ap case_number (rw t at (told_all e)) in absurd (omega arith))
+      (λ t. let z = rw t at (told_all e) in absurd (cc))
+      (λ t. let z = rw t at (told_all e) in absurd (cc))

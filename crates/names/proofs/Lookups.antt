@@ -17,22 +17,18 @@ use Rattle.source.specs.Tokens.{Lexeme}
 use Rattle.source.specs.Program.{same_name, word_from, word_of, looked_up}
 use Rattle.source.specs.Memory.{token_shapes, token_of, tokens_from, lexeme_of, lexemes_from}
 use Rattle.source.proofs.Stored.{tokens_each, lexemes_each}
-use Rattle.name_index.specs.declared.Side.{Side}
-use Rattle.name_index.specs.declared.Side.TheVariants.{Before, Same, After}
+use Rattle.std.specs.declared.cmp.Ordering.{Ordering}
+use Rattle.std.specs.declared.cmp.Ordering.TheVariants.{Less, Equal, Greater}
+use Rattle.std.specs.Ordering.{is_eq}
 use Rattle.name_index.specs.Order.{side_of}
-use Rattle.name_index.proofs.Order.{side_same, side_self, not_same_before, not_same_after, same_name_self, other_name}
+use Rattle.name_index.proofs.Order.{side_same, side_self, same_name_self, other_name}
 
 -- ---- SEND
 
-module _ (a b : List ℕ) (s : Side) (e : s ≡ side_of b a) where
-  pub is_same : s ≡ Same → true ≡ same_name a b
-  is_same z = let same = side_same b a (sym e ∙ z) in rw same (sym (same_name_self a))
-
-  pub is_before : s ≡ Before → false ≡ same_name a b
-  is_before z = sym (other_name a b (λ same. not_same_before (ap (side_of b) same ∙ side_self b) (sym e ∙ z)))
-
-  pub is_after : s ≡ After → false ≡ same_name a b
-  is_after z = sym (other_name a b (λ same. not_same_after (ap (side_of b) same ∙ side_self b) (sym e ∙ z)))
+pub told_apart : (a b : List ℕ) (s : Ordering) → s ≡ side_of b a → is_eq s ≡ same_name a b
+told_apart a b Less e = sym (other_name a b (λ same. let z = ap (side_of b) same ∙ side_self b in cc))
+told_apart a b Equal e = rw (side_same b a (sym e)) (sym (same_name_self a))
+told_apart a b Greater e = sym (other_name a b (λ same. let z = ap (side_of b) same ∙ side_self b in cc))
 
 module _ (ms : List (List ℕ)) (n : List ℕ) (b : Bool) (e : b ≡ same_name (bytes "SEND") n) where
   pub send_word_law : b ≡ true → 1 ≡ word_of ms n

@@ -1,12 +1,13 @@
 -- What looking up and declaring do, stated of all names that the arrays hold. Comments in quotes are document 01's words.
-use Rattle.std.specs.Prelude.{ℕ, ◌≡◌, List, [], ◌∷◌, ◌++◌, map, eqb}
+use Rattle.std.specs.Prelude.{ℕ, ◌≡◌, List, [], ◌∷◌, ◌++◌, map, eqb, Result, Ok, Err}
 use Rattle.base.specs.Choice.{pick}
 use Rattle.source.specs.Memory.{tokens_from, lexemes_from}
 use Rattle.source.specs.Program.{word_of, looked_up}
 use Rattle.name_index.specs.Memory.{NamesHeld}
 use Rattle.name_index.specs.Answers.{has_room}
-use Rattle.names.specs.declared.Declared.{Declared}
-use Rattle.names.specs.declared.Declared.TheVariants.{Names as Declaring, Refused, Unfit}
+use Rattle.name_index.specs.declared.Names.{Names as Counts}
+use Rattle.names.specs.declared.Failure.{Failure}
+use Rattle.names.specs.declared.Failure.TheVariants.{Refused, Unfit}
 
 -- ---- looking up
 
@@ -32,11 +33,11 @@ declared_of ms (n ∷ ns) =
     pick (eqb (word_of ms n) 0) (pick (has_room ms n) (declared_of (ms ++ n ∷ []) ns) unfit) (refusal 8)
 
 -- an answer, and what it stands for
-pub data Tells (letters index : List ℕ) : Declared → Names → Type 0 where
-  declares : (ms : List (List ℕ)) (v filled : ℕ) → NamesHeld ms v filled letters index → Tells letters index (Declaring v filled) (names ms)
-  refuses : Tells letters index Refused (refusal 8)
-  no_room : Tells letters index Unfit unfit
+pub data Tells (letters index : List ℕ) : Result Counts Failure → Names → Type 0 where
+  declares : (ms : List (List ℕ)) (n : Counts) → NamesHeld ms n.count n.letters letters index → Tells letters index (Ok n) (names ms)
+  refuses : Tells letters index (Err Refused) (refusal 8)
+  no_room : Tells letters index (Err Unfit) unfit
 
-abbrev pub Declares : List (List ℕ) → ℕ → ℕ → List ℕ → List ℕ → Declared → List ℕ → List ℕ → Type 0
+abbrev pub Declares : List (List ℕ) → ℕ → ℕ → List ℕ → List ℕ → Result Counts Failure → List ℕ → List ℕ → Type 0
 Declares ns v filled before_letters before_index r letters index =
     (ms : List (List ℕ)) → NamesHeld ms v filled before_letters before_index → Tells letters index r (declared_of ms ns)

@@ -8,6 +8,3 @@ use Rattle.labels.proofs.number_of.Given as goal
 
 abbrev pub invariant-loop-i : goal.invariant-loop-i
 invariant-loop-i l = found_of l.next (each (λ j. label_in l.next (get_or l.labels j 0)) l.i (l.count - l.i)) l.l ≡ found_of l.next (labels_of l.next l.count l.labels) l.l
-
-abbrev pub decreases-loop-i : goal.decreases-loop-i
-decreases-loop-i l = l.count - l.i

@@ -1,4 +1,4 @@
-use Prim.Native.Nat.{◌+◌, ◌-◌, ◌*◌, ◌≤◌}
+use Prim.Native.Nat.{◌+◌, ◌≤◌, ◌<◌}
 use mathlib.Core.Path.{◌≡◌}
 use lib.ListN.{length}
 use Rattle.labels.specs.Memory.{label_here, labels_at}
@@ -7,7 +7,4 @@ use Rattle.labels.proofs.Setting.{left}
 use Rattle.labels.proofs.set_all.Given as goal
 
 abbrev pub invariant-loop-i : goal.invariant-loop-i
-invariant-loop-i l = (length l.labels ≡ length l.initial.labels) × (l.i ≤ l.many) × (l.place ≡ l.i * 2) × (l.i ≤ l.set) × (Room l.initial.labels (l.count + length (labels_at l.many l.kinds l.values)) l.next → Loop l.initial.labels l.count l.next (labels_at l.many l.kinds l.values) (left l.initial.labels l.count l.next (label_here l.kinds l.values) l.many l.i) l.set l.i l.labels)
-
-abbrev pub decreases-loop-i : goal.decreases-loop-i
-decreases-loop-i l = l.many - l.i
+invariant-loop-i l = (length l.labels ≡ length l.initial.labels) × (l.i ≤ l.set) × (l.set < 4294967296) × (Room l.initial.labels (l.count + length (labels_at l.many l.kinds l.values)) l.next → Loop l.initial.labels l.count l.next (labels_at l.many l.kinds l.values) (left l.initial.labels l.count l.next (label_here l.kinds l.values) l.many l.i) l.set l.i l.labels)

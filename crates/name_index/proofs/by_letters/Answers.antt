@@ -12,7 +12,7 @@ loop-i-preserved c = let a = c.args in
     let l = c.loop-i in
     let e = l.invariant.0 in
     let t = c.loop-i-test.true in
-    let last = c.further-last.ensures ∙ ap (max l.last) c.differing.ensures in (
+    let last = c.max-last.ensures ∙ ap (max l.last) c.differing.ensures in (
       e,
       l.invariant.1,
       omega (arith, t),
@@ -32,4 +32,4 @@ returns c = let a = c.args in
     let l = c.loop-i in
     let e = l.invariant.0 in
     let t = c.loop-i-test.false in
-    c.letter_side.ensures ∙ decided_here a.a.now a.b.now l.last c.if-last-eq0.false ∙ decided_over a.a.now a.b.now l.i l.last t (omega (arith, e, t)) ∙ l.invariant.4
+    c.cmp.ensures ∙ decided_here a.a.now a.b.now l.last c.if-last-eq0.false ∙ decided_over a.a.now a.b.now l.i l.last t (omega (arith, e, t)) ∙ l.invariant.4

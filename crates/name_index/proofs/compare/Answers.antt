@@ -1,21 +1,21 @@
+use mathlib.Core.Path.{sym, ◌∙◌}
 use native.Mathlib.Omega.{arith}
+use borrow.Author.Tests.{eqb-true, eqb-false}
 use lib.ListN.{length}
-use Rattle.name_index.proofs.Order.{shorter_before, longer_after, none_behind, both_empty, less_here, greater_here}
+use Rattle.name_index.proofs.Order.{length_decides, same_length, none_behind, both_empty, last_decides}
 use Rattle.name_index.proofs.compare.Goals as goal
 
-pub returns-then-a-b : goal.returns-then-a-b
-returns-then-a-b c = shorter_before _ _ c.if-a-b.true
+pub returns-then-is_ne : goal.returns-then-is_ne
+returns-then-is_ne c = length_decides c.args.a.now c.args.b.now c.cmp-by_length.ensures (sym c.is_ne.ensures ∙ c.if-is_ne.true)
 
-pub returns-then-b-a : goal.returns-then-b-a
-returns-then-b-a c = longer_after _ _ c.if-b-a.true
+pub returns-then-is_empty : goal.returns-then-is_empty
+returns-then-is_empty c = let a = c.args.a.now in let b = c.args.b.now in
+    both_empty a b (eqb-true (length a) 0 (sym c.is_empty.ensures ∙ c.if-is_empty.true))
+    (same_length a b c.cmp-by_length.ensures (sym c.is_ne.ensures ∙ c.if-is_ne.false))
 
-pub returns-then-a-eq0 : goal.returns-then-a-eq0
-returns-then-a-eq0 c = let g = c.if-a-b.false in let e = c.if-a-eq0.true in both_empty _ _ e (omega (arith, e, c.if-b-a.false))
-
-pub returns-then-a-k : goal.returns-then-a-k
-returns-then-a-k c = let a = c.args in let h = c.if-a-b.false in let g = c.if-b-a.false in let some = c.if-a-eq0.false in
-    less_here a.a.now a.b.now (length a.a.now) (omega (arith, some)) (omega arith) g (none_behind a.a.now a.b.now (length a.a.now) (omega arith) h) c.if-a-k.true
-
-pub returns-then-b-k : goal.returns-then-b-k
-returns-then-b-k c = let a = c.args in let h = c.if-a-b.false in let g = c.if-b-a.false in let some = c.if-a-eq0.false in
-    greater_here a.a.now a.b.now (length a.a.now) (omega (arith, some)) (omega arith) g (none_behind a.a.now a.b.now (length a.a.now) (omega arith) h) c.if-b-k.true
+pub returns-then-is_ne-2 : goal.returns-then-is_ne-2
+returns-then-is_ne-2 c = let a = c.args.a.now in let b = c.args.b.now in
+    let e = same_length a b c.cmp-by_length.ensures (sym c.is_ne.ensures ∙ c.if-is_ne.false) in
+    let n = eqb-false (length a) 0 (sym c.is_empty.ensures ∙ c.if-is_empty.false) in
+    last_decides a b (length a) (omega (arith, n)) (omega arith) (omega (arith, e)) (none_behind a b (length a) (omega arith) (omega (arith, e)))
+    c.cmp-by_last.ensures (sym c.is_ne-2.ensures ∙ c.if-is_ne-2.true)

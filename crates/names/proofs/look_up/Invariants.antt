@@ -1,11 +1,7 @@
-use Prim.Native.Nat.{◌-◌, ◌≤◌}
 use mathlib.Core.Path.{◌≡◌}
 use lib.ListN.{length}
 use Rattle.names.specs.Internal.{LookedUp}
 use Rattle.names.proofs.look_up.Given as goal
 
 abbrev pub invariant-loop-i : goal.invariant-loop-i
-invariant-loop-i l = (length l.words ≡ length l.initial.words) × (l.i ≤ l.n) × (l.i ≤ length l.initial.words) × LookedUp l.i l.cells l.kinds l.values l.v l.letters l.index l.words
-
-abbrev pub decreases-loop-i : goal.decreases-loop-i
-decreases-loop-i l = l.n - l.i
+invariant-loop-i l = (length l.words ≡ length l.initial.words) × LookedUp l.i l.cells l.kinds l.values l.v l.letters l.index l.words
