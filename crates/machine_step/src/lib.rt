@@ -90,7 +90,7 @@ pub fn step(orders: &[u64], words: &mut [u32], output: &mut [u8], r: Registers) 
     carry_out(
         (w / 4294967296) as u32,
         (w % 4294967296) as u32,
-        std::num::wrapping_add_usize(place, 1),
+        place.wrapping_add(1),
         words,
         output,
         r,

@@ -15,33 +15,13 @@ fn operation_number(f: Operation) -> u8
     ensures numbered { result ≡ operation_number f }
     ensures few { result < 12 }
 {
-    match f {
-        Operation::Load => 0,
-        Operation::Add => 1,
-        Operation::Sub => 2,
-        Operation::Mlt => 3,
-        Operation::Div => 4,
-        Operation::Exp => 5,
-        Operation::Shl => 6,
-        Operation::Shr => 7,
-        Operation::And => 8,
-        Operation::Or => 9,
-        Operation::Xor => 10,
-        Operation::Cmp => 11,
-    }
+    f as u8
 }
 
 fn branch_number(s: Relation) -> u8
     ensures { result ≡ branch_number s }
 {
-    match s {
-        Relation::Equal => 5,
-        Relation::Unequal => 6,
-        Relation::Less => 7,
-        Relation::AtMost => 8,
-        Relation::Greater => 9,
-        Relation::AtLeast => 10,
-    }
+    5 + s as u8
 }
 
 // The number of an order.

@@ -34,19 +34,19 @@ impl Fault {
 pub fn add(a: u32, b: u32) -> u32
     ensures { result ≡ sum a b }
 {
-    std::num::wrapping_add_u32(a, b)
+    a.wrapping_add(b)
 }
 
 pub fn sub(a: u32, b: u32) -> u32
     ensures { result ≡ difference a b }
 {
-    std::num::wrapping_sub_u32(a, b)
+    a.wrapping_sub(b)
 }
 
 pub fn mul(a: u32, b: u32) -> u32
     ensures { result ≡ product a b }
 {
-    (a as u64 * b as u64 % 4294967296) as u32
+    a.wrapping_mul(b)
 }
 
 // The integer that a pattern stands for.

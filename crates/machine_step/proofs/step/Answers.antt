@@ -1,4 +1,4 @@
-use Rattle.std.proofs.Common.{◌∙◌, arith}
+use Rattle.std.proofs.Common.{◌∙◌, arith, refl}
 use Rattle.machine_step.proofs.Orders.{step_carried}
 use Rattle.machine_step.proofs.step.Goals as goal
 
@@ -8,5 +8,5 @@ returns c =
     ∙ step_carried
     c.args.orders.now _ _ _ _ _
     c.at-w.ensures
-    c.wrapping_add_usize.ensures.value
+    refl
     (omega (arith, c.well_formed.0))

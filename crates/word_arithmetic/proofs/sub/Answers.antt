@@ -5,4 +5,4 @@ use Rattle.word_arithmetic.proofs.sub.Goals as goal
 -- the supplied function says which number, with b added, wraps to a: there is one below 2 to the 32
 pub returns : goal.returns
 unfolding difference wrap
-returns c = omega (arith, c.wrapping_sub_u32.ensures, c.wrapping_sub_u32.type_inv)
+returns c = omega arith
