@@ -9,7 +9,6 @@ use Rattle.sheet.specs.declared.Field.{Field}
 use Rattle.source.specs.Limits.{most_cells}
 use Rattle.source.specs.Grammar.{Read}
 use Rattle.grammar_look.specs.declared.Tokens.{Tokens}
-use Rattle.grammar_output.specs.Internal.{Moved}
 use Rattle.grammar_lead.specs.declared.Opened.{Opened}
 use Rattle.grammar_lead.specs.Internal.{OpenedAs}
 use Rattle.grammar_operand.specs.declared.Reading.{Reading}

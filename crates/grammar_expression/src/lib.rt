@@ -19,12 +19,7 @@ use source::MOST_CELLS;
 use source::marks::MARK_CLOSE;
 
 // An expression, with the brackets that it has open in an array of its own.
-pub fn expression(
-    tokens: &Tokens<'_>,
-    at: usize,
-    fields: &mut [u64],
-    out: usize,
-) -> Option<Step>
+pub fn expression(tokens: &Tokens<'_>, at: usize, fields: &mut [u64], out: usize) -> Option<Step>
     requires { Ready tokens.now.count at out fields.old }
     ensures moved { Moved 1 tokens.now.count at out result }
     ensures read { stepped tokens.now result fields.new
