@@ -1,4 +1,4 @@
-use Prim.Native.Nat.{◌-◌, ◌≤◌}
+use Prim.Native.Nat.{◌≤◌}
 use mathlib.Core.Path.{◌≡◌}
 use Rattle.source.specs.Grammar.{holds_relation}
 use Rattle.grammar_look.specs.Internal.{ahead}
