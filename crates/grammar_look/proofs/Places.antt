@@ -5,13 +5,13 @@ use mathlib.Core.Bool.{true, false}
 use mathlib.Core.List.{List, [], ◌∷◌}
 use native.Mathlib.Omega.{arith}
 use native.Mathlib.Numerals.{add-one}
-use lib.ListN.{length, get_or}
+use lib.ListN.{length}
 use Rattle.std.specs.Prelude.{None, Some}
 use Rattle.base.specs.Choice.{pick}
 use Rattle.source.specs.declared.Token.{Token}
 use Rattle.source.specs.Tokens.{mark_colon}
 use Rattle.source.specs.Grammar.{opens, behind_first}
-use Rattle.source.specs.Memory.{token_of, tokens_from}
+use Rattle.source.specs.Memory.{tokens_from}
 use Rattle.source.proofs.Stored.{tokens_length, tokens_more, tokens_over}
 use Rattle.grammar_look.specs.declared.Tokens.{Tokens}
 use Rattle.grammar_look.specs.Internal.{token_at, ahead, first, opening_of, first_opening, first_number, first_label}
