@@ -7,6 +7,7 @@ use mathlib.Core.List.{List, [], ◌∷◌, ◌++◌, map}
 use native.Mathlib.Omega.{arith}
 use borrow.Author.Tests.{leb-true}
 use lib.Dec.{leb, eqb}
+use Rattle.std.proofs.Common.{Option, Some, None}
 use Rattle.base.specs.Choice.{pick}
 use Rattle.base.proofs.Cases.{both_yes, chosen_second}
 use Rattle.sheet.specs.declared.Field.{Field}
@@ -19,8 +20,6 @@ use Rattle.source.specs.Grammar.{Instruction, simple, if_then, if_else, if_start
 use Rattle.source.specs.Fields.{instruction_fields}
 use Rattle.source.specs.Limits.{greatest_label}
 use Rattle.source.specs.Program.{is_known, all_known, known_simple, known_condition, known, is_label, simple_jumps, jumps_in, all, jump}
-use Rattle.fields.specs.declared.Jump.{Jump}
-use Rattle.fields.specs.declared.Jump.TheVariants.{To, Missing}
 use Rattle.fields.specs.Memory.{field_known, fields_known, jump_of, with_jump, field_jumps, statement_numbers, label_numbers}
 use Rattle.fields.specs.Memory.{packed_jump, jumping, jumping_as, packed_field, label_of, unpacked, jump_in}
 
@@ -113,9 +112,9 @@ unfolding field_jumps
 jumps_append [] m = refl
 jumps_append (f ∷ l) m = ap (with_jump (jump_of f)) (jumps_append l m) ∙ by_jump (jump_of f)
   where
-    by_jump : (j : Jump) → with_jump j (field_jumps l ++ field_jumps m) ≡ with_jump j (field_jumps l) ++ field_jumps m
-    by_jump (To n) = refl
-    by_jump Missing = refl
+    by_jump : (j : Option ℕ) → with_jump j (field_jumps l ++ field_jumps m) ≡ with_jump j (field_jumps l) ++ field_jumps m
+    by_jump (Some n) = refl
+    by_jump None = refl
 
 expression_jumps : (e : Expression) → field_jumps (expression_fields e) ≡ []
 unfolding expression_fields field_jumps
@@ -181,7 +180,7 @@ module _ (k l : ℕ) (label_too : is_label l ≡ true) where
   jump_again few = ap₂ jump (statement_again few) label_again
 
 -- fields that do not jump, and those that do
-by_field : (P : Field → Jump → Type 0) → ((l : ℕ) → P (Goto l) (To l)) → ((f : Field) → jump_of f ≡ Missing → P f Missing) → (f : Field) → P f (jump_of f)
+by_field : (P : Field → Option ℕ → Type 0) → ((l : ℕ) → P (Goto l) (Some l)) → ((f : Field) → jump_of f ≡ None → P f None) → (f : Field) → P f (jump_of f)
 by_field P to none Else = none Else refl
 by_field P to none Start = none Start refl
 by_field P to none Finish = none Finish refl

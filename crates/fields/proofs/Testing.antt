@@ -1,46 +1,27 @@
 -- Tests of every field of an array.
-use Prim.Native.Nat.{ℕ, ◌+◌, ◌<◌, ◌≤◌}
-use mathlib.Core.Path.{◌≡◌, refl, ap, ◌∙◌}
-use mathlib.Core.Bool.{Bool, true, false}
-use mathlib.Core.List.{List, [], ◌∷◌}
-use lib.ListN.{length, get_or, drop_of_length-le}
+use Prim.Native.Nat.{ℕ}
+use mathlib.Core.Path.{◌≡◌, refl}
+use mathlib.Core.List.{List, [], ◌∷◌, map}
+use Rattle.std.specs.List.{list_all}
+use Rattle.std.proofs.Common.{Option, Some, None, ◌&&◌}
 use Rattle.base.specs.Choice.{pick}
-use Rattle.base.proofs.Lists.{drop_more}
-use Rattle.sheet.specs.declared.Field.{Field}
-use Rattle.sheet_field.specs.Memory.{field_in, fields_at}
+use Rattle.base.proofs.Cases.{by_test}
+use Rattle.sheet_field.specs.Memory.{field_in}
 use Rattle.source.specs.Program.{is_label, all}
-use Rattle.fields.specs.declared.Jump.{Jump}
-use Rattle.fields.specs.declared.Jump.TheVariants.{To, Missing}
 use Rattle.fields.specs.Internal.{good_jump}
 use Rattle.fields.specs.Memory.{field_known, fields_known, jump_of, with_jump, field_jumps}
 
-unfoldable pub every : (Field → Bool) → List Field → Bool
-every test [] = true
-every test (f ∷ fs) = pick (test f) (every test fs) false
+pub known_each : (ws : List ℕ) → list_all (λ w. field_known (field_in w)) ws ≡ fields_known (map field_in ws)
+unfolding fields_known pick
+known_each [] = refl
+known_each (w ∷ ws) = by_test (field_known (field_in w)) (λ t. rw t (known_each ws)) (λ t. rw t refl)
 
-pub known_every : (fs : List Field) → every field_known fs ≡ fields_known fs
-unfolding every fields_known
-known_every [] = refl
-known_every (f ∷ fs) = ap (λ r. pick (field_known f) r false) (known_every fs)
-
-pub jumps_every : (fs : List Field) → every (λ f. good_jump (jump_of f)) fs ≡ all is_label (field_jumps fs)
-unfolding every field_jumps
-jumps_every [] = unfold all in refl
-jumps_every (f ∷ fs) = ap (λ r. pick (good_jump (jump_of f)) r false) (jumps_every fs) ∙ by_jump (jump_of f)
+pub jumps_each : (ws : List ℕ) → list_all (λ w. good_jump (jump_of (field_in w))) ws ≡ all is_label (field_jumps (map field_in ws))
+unfolding field_jumps all pick
+jumps_each [] = refl
+jumps_each (w ∷ ws) = by_jump (jump_of (field_in w)) (jumps_each ws)
   where
-    by_jump : (j : Jump) → pick (good_jump j) (all is_label (field_jumps fs)) false ≡ all is_label (with_jump j (field_jumps fs))
-    by_jump (To l) = unfold all in refl
-    by_jump Missing = unfold pick in refl
-
-module _ (test : Field → Bool) (ws : List ℕ) (i : ℕ) where
-  pub every_turn : i < length ws → test (field_in (get_or ws i 0)) ≡ true → every test (fields_at (i + 1) ws) ≡ every test (fields_at i ws)
-  unfolding every pick
-  every_turn h e = rw (drop_more ws i 0 h, e) refl
-
-  pub every_fails : i < length ws → test (field_in (get_or ws i 0)) ≡ false → false ≡ every test (fields_at i ws)
-  unfolding every pick
-  every_fails h e = rw (drop_more ws i 0 h, e) refl
-
-  pub every_over : length ws ≤ i → true ≡ every test (fields_at i ws)
-  unfolding every
-  every_over h = rw (drop_of_length-le ws h) refl
+    by_jump : (j : Option ℕ) → list_all (λ v. good_jump (jump_of (field_in v))) ws ≡ all is_label (field_jumps (map field_in ws))
+        → (good_jump j && list_all (λ v. good_jump (jump_of (field_in v))) ws) ≡ all is_label (with_jump j (field_jumps (map field_in ws)))
+    by_jump (Some l) e = by_test (is_label l) (λ t. rw t e) (λ t. rw t refl)
+    by_jump None e = e

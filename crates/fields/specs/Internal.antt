@@ -1,9 +1,7 @@
 -- What the private functions compute.
-use Rattle.std.specs.Prelude.{Bool, true}
+use Rattle.std.specs.Prelude.{ℕ, Bool, true, Option, Some, None}
 use Rattle.source.specs.Program.{is_label}
-use Rattle.fields.specs.declared.Jump.{Jump}
-use Rattle.fields.specs.declared.Jump.TheVariants.{To, Missing as NoJump}
 
-abbrev pub good_jump : Jump → Bool
-good_jump (To l) = is_label l
-good_jump NoJump = true
+abbrev pub good_jump : Option ℕ → Bool
+good_jump (Some l) = is_label l
+good_jump None = true

@@ -1,13 +1,11 @@
 -- The fields of a program in memory, where a jump carries the number of its statement and its label; and what the fields of an
 -- instruction, as they stand in memory, tell of it.
-use Rattle.std.specs.Prelude.{ℕ, ◌+◌, ◌*◌, ◌/◌, ◌%◌, Bool, true, false, List, [], ◌∷◌}
+use Rattle.std.specs.Prelude.{ℕ, ◌+◌, ◌*◌, ◌/◌, ◌%◌, Bool, true, false, List, [], ◌∷◌, Option, Some, None}
 use Rattle.base.specs.Choice.{pick}
 use Rattle.sheet.specs.declared.Field.{Field}
 use Rattle.sheet.specs.declared.Field.TheVariants.{Else, Start, Finish, If, Send, Neg, Not, Binary, Compare, Word, Constant, Set, Goto, Run}
 use Rattle.source.specs.Limits.{most_bytes, greatest_label}
 use Rattle.source.specs.Program.{is_known, Jump as SourceJump, jump}
-use Rattle.fields.specs.declared.Jump.{Jump}
-use Rattle.fields.specs.declared.Jump.TheVariants.{To, Missing as NoJump}
 
 -- ---- names: `known` of source/specs/Program.antt, told on fields
 
@@ -33,25 +31,26 @@ fields_known (f ∷ fs) = pick (field_known f) (fields_known fs) false
 
 -- ---- jumps: `jumps_in` of source/specs/Program.antt, told on fields
 
-abbrev pub jump_of : Field → Jump
-jump_of Else = NoJump
-jump_of Start = NoJump
-jump_of Finish = NoJump
-jump_of If = NoJump
-jump_of Send = NoJump
-jump_of Neg = NoJump
-jump_of Not = NoJump
-jump_of (Binary o) = NoJump
-jump_of (Compare r) = NoJump
-jump_of (Word w) = NoJump
-jump_of (Constant n) = NoJump
-jump_of (Set w) = NoJump
-jump_of (Goto l) = To l
-jump_of (Run w n) = NoJump
+-- the number that a jump carries
+abbrev pub jump_of : Field → Option ℕ
+jump_of Else = None
+jump_of Start = None
+jump_of Finish = None
+jump_of If = None
+jump_of Send = None
+jump_of Neg = None
+jump_of Not = None
+jump_of (Binary o) = None
+jump_of (Compare r) = None
+jump_of (Word w) = None
+jump_of (Constant n) = None
+jump_of (Set w) = None
+jump_of (Goto l) = Some l
+jump_of (Run w n) = None
 
-abbrev pub with_jump : Jump → List ℕ → List ℕ
-with_jump (To l) ls = l ∷ ls
-with_jump NoJump ls = ls
+abbrev pub with_jump : Option ℕ → List ℕ → List ℕ
+with_jump (Some l) ls = l ∷ ls
+with_jump None ls = ls
 
 unfoldable pub field_jumps : List Field → List ℕ
 field_jumps [] = []
@@ -70,9 +69,9 @@ abbrev pub packed_jump : ℕ → ℕ → ℕ
 packed_jump k l = k % statement_numbers * label_numbers + l % label_numbers
 
 -- a field with another number where it jumps
-abbrev pub jumping_as : (ℕ → ℕ) → Field → Jump → Field
-jumping_as to f (To l) = Goto (to l)
-jumping_as to f NoJump = f
+abbrev pub jumping_as : (ℕ → ℕ) → Field → Option ℕ → Field
+jumping_as to f (Some l) = Goto (to l)
+jumping_as to f None = f
 
 abbrev pub jumping : (ℕ → ℕ) → Field → Field
 jumping to f = jumping_as to f (jump_of f)
