@@ -1,12 +1,12 @@
 -- The text of a field: what a row of the table has, and behind it the number that the field carries, if it carries one.
-use Prim.Native.Nat.{ℕ, ◌+◌, ◌*◌, ◌%◌, ◌<◌, ◌≤◌}
+use Prim.Native.Nat.{ℕ, ◌+◌, ◌%◌, ◌<◌, ◌≤◌}
 use mathlib.Core.Path.{◌≡◌, refl, sym, ap, ◌∙◌}
 use mathlib.Core.Bool.{true}
 use mathlib.Core.List.{List, [], ◌++◌, append-nil}
 use native.Mathlib.Omega.{arith}
 use borrow.Author.Tests.{lt-ltb, le-ltb, ltb-true}
 use lib.Dec.{ltb}
-use lib.ListN.{length, get_or, take, drop, length-append}
+use lib.ListN.{length, get_or, take, length-append}
 use Rattle.base.specs.Choice.{pick}
 use Rattle.base.specs.Text.{bytes}
 use Rattle.base.specs.Places.{each}
@@ -18,7 +18,7 @@ use Rattle.sheet.specs.declared.Field.{Field}
 use Rattle.sheet.specs.Fields.{field_text}
 use Rattle.sheet_field.specs.Memory.{kind, carried, shapes, field_of}
 use Rattle.sheet_field.proofs.Stored.{field_again, kind_below}
-use Rattle.sheet_text.specs.Internal.{front_table, front_lengths}
+use Rattle.sheet_text.specs.Internal.{front_lengths, front_row}
 
 -- the length of what stands before the number, by its digit
 abbrev pub front_length : ℕ → ℕ
@@ -26,7 +26,7 @@ front_length k = get_or front_lengths k 0 % 16
 
 -- the rule of the table, as computed over it, v being the number that is carried
 rows_told : (v : ℕ) →
-    each (λ k. take (front_length k) (drop (6 * k) front_table) ++ pick (ltb k 23) [] (decimal v)) 0 29
+    each (λ k. front_row k ++ pick (ltb k 23) [] (decimal v)) 0 29
     ≡ each (λ k. field_text (field_of k v)) 0 29
 unfolding each field_of shapes bytes digits_of pick
 rows_told v = refl
@@ -38,6 +38,14 @@ front k = take (front_length k) (field_text (field_of k 0))
 texts_told : (v : ℕ) → each (λ k. front k ++ pick (ltb k 23) [] (decimal v)) 0 29 ≡ each (λ k. field_text (field_of k v)) 0 29
 unfolding each field_of shapes bytes digits_of pick
 texts_told v = refl
+
+rows_long : each (λ k. length (front_row k)) 0 29 ≡ each (λ k. front_length k) 0 29
+unfolding each bytes
+rows_long = refl
+
+-- a row is as long as its digit says
+pub row_length : (k : ℕ) → k < 29 → length (front_row k) ≡ front_length k
+row_length k h = each_at (λ j. length (front_row j)) (λ j. front_length j) 29 rows_long k h
 
 lengths_told : each (λ k. length (front k)) 0 29 ≡ each (λ k. front_length k) 0 29
 unfolding each field_of shapes bytes digits_of pick
@@ -54,15 +62,12 @@ module _ (f : Field) (k : ℕ) (e : k ≡ kind f) where
   again : field_of k (carried f) ≡ f
   again = rw e (field_again f)
 
-  module _ (table lengths : List ℕ) (own_table : table ≡ front_table) (own_lengths : lengths ≡ front_lengths) (n : ℕ) (is_length : n ≡ get_or lengths k 0) (row : List ℕ) (is_row : row ≡ take (n % 16) (drop (6 * k) table)) where
-    is_front : row ≡ take (front_length k) (drop (6 * k) front_table)
-    is_front = rw (is_row, is_length, own_lengths, own_table) refl
-
+  module _ (row : List ℕ) (is_row : row ≡ front_row k) where
     whole : row ++ pick (ltb k 23) [] (decimal (carried f)) ≡ field_text f
     whole =
-        rw is_front
+        rw is_row
         (each_at
-        (λ j. take (front_length j) (drop (6 * j) front_table) ++ pick (ltb j 23) [] (decimal (carried f)))
+        (λ j. front_row j ++ pick (ltb j 23) [] (decimal (carried f)))
         (λ j. field_text (field_of j (carried f)))
         29
         (rows_told (carried f))

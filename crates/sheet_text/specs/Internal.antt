@@ -1,5 +1,5 @@
--- What the private functions tell, and the tables that they are lent, by the fields' numbers in memory.
-use Rattle.std.specs.Prelude.{ℕ, List, [], ◌∷◌, Option, Some, None}
+-- What the private functions tell, and the tables that they read, by the fields' numbers in memory.
+use Rattle.std.specs.Prelude.{ℕ, ◌*◌, ◌%◌, List, [], ◌∷◌, take, drop, get_or, Option, Some, None}
 use Rattle.base.specs.Text.{bytes}
 use Rattle.sheet.specs.Fields.{field_text}
 use Rattle.sheet_field.specs.Memory.{field_in}
@@ -19,3 +19,7 @@ front_table =
 -- their lengths, as digits
 abbrev pub front_lengths : List ℕ
 front_lengths = bytes "45624331111222112111212114543"
+
+-- row k of the table, as far as its length
+abbrev pub front_row : ℕ → List ℕ
+front_row k = take (get_or front_lengths k 0 % 16) (drop (6 * k) front_table)

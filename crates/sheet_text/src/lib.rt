@@ -2,7 +2,7 @@
 // lines have of them is told by sheet_line.
 #![tactic(auto)]
 
-ghost use Rattle.std.specs.Prelude.{◌≡◌, [], ◌++◌, ◌≤◌, length};
+ghost use Rattle.std.specs.Prelude.{◌≡◌, [], ◌++◌, ◌≤◌, ◌<◌, length};
 ghost use Rattle.text.specs.Pieces.{decimal};
 ghost use Rattle.text.specs.Buffer.{filled_with};
 ghost use Rattle.text.specs.Internal.{placed, put_all};
@@ -11,7 +11,7 @@ ghost use Rattle.sheet_field.specs.Memory.{kind, carried, field_in, fields_at};
 ghost use Rattle.sheet_line.specs.Runs.{lined};
 ghost use Rattle.sheet_text.specs.Answers.{written, Measured, reply_for};
 ghost use Rattle.sheet_text.specs.TextOfFields.{begins, separator, header_text, fields_text, text_of_fields};
-ghost use Rattle.sheet_text.specs.Internal.{front_table, front_lengths, shown_text};
+ghost use Rattle.sheet_text.specs.Internal.{front_table, front_lengths, front_row, shown_text};
 
 use base::part;
 use sheet::Field;
@@ -20,14 +20,35 @@ use sheet_line::shown_at;
 use text::write::{decimal_length, put_byte, put_decimal, put_fixed};
 
 // What the text of a field begins with, by the fields' numbers in memory: six bytes each, a shorter one with spaces behind it.
-// From 23 on the number that the field carries stands behind it. The tables are lent by `write`, since a function that names one
-// has all of it stored anew at each call.
-const FRONTS: [u8; 174] = *b"ELSE  START FINISHIF    SEND  NEG   NOT   \
+// From 23 on the number that the field carries stands behind it.
+static FRONTS: [u8; 174] = *b"ELSE  START FINISHIF    SEND  NEG   NOT   \
     +     -     *     /     **    <<    >>    &     !     !!    \
     =     #     <     <=    >     >=    W     K     SET\t  GOTO\t AND\t  OR\t   ";
 
 // Their lengths, as digits.
-const FRONT_LENGTHS: [u8; 29] = *b"45624331111222112111212114543";
+static FRONT_LENGTHS: [u8; 29] = *b"45624331111222112111212114543";
+
+// The tables. Only these two functions name them, so no proof of another has all of their bytes before it.
+fn front_table() -> &'static [u8]
+    ensures { result.now ≡ front_table }
+{
+    &FRONTS
+}
+
+fn front_lengths() -> &'static [u8]
+    ensures { result.now ≡ front_lengths }
+{
+    &FRONT_LENGTHS
+}
+
+// What the text of a field begins with whose kind has the number k.
+fn front(k: usize) -> &'static [u8]
+    requires { k < 29 }
+    ensures { result.now ≡ front_row k }
+{
+    let count = base::at(front_lengths(), k, 0) % 16;
+    part(front_table(), 6 * k, count as usize)
+}
 
 // A fixed string and the number behind it.
 fn put_numbered(buffer: &mut [u8], at: usize, string: &[u8], n: u32) -> usize
@@ -40,7 +61,8 @@ fn put_numbered(buffer: &mut [u8], at: usize, string: &[u8], n: u32) -> usize
 // The number of the kind of the field that a number stands for; that of ELSE where it stands for none.
 #[tactic(auto, using(crate::proofs::ByNumber::kind_told), unfolding(base::specs::Choice::pick))]
 fn kind_in(w: u64) -> usize
-    ensures { result ≡ kind (field_in w) }
+    ensures told { result ≡ kind (field_in w) }
+    ensures few { result < 29 }
 {
     let k = w / 4294967296;
     if k < 29 { k as usize } else { 0 }
@@ -58,16 +80,11 @@ fn value_in(w: u64) -> u32
 }
 
 // The field that a number stands for.
-fn put_field(buffer: &mut [u8], at: usize, w: u64, fronts: &[u8], lengths: &[u8]) -> usize
-    requires { (fronts.now ≡ front_table) × (lengths.now ≡ front_lengths) }
+fn put_field(buffer: &mut [u8], at: usize, w: u64) -> usize
     ensures { placed result buffer.new ≡ put_all (field_text (field_in w)) (placed at buffer.old) }
 {
     let k = kind_in(w);
-    let i = put_fixed(
-        buffer,
-        at,
-        part(fronts, 6 * k, (base::at(lengths, k, 0) % 16) as usize),
-    );
+    let i = put_fixed(buffer, at, front(k));
     if k < 23 {
         return i;
     }
@@ -108,76 +125,59 @@ fn put_header(buffer: &mut [u8], at: usize, v: u32, instructions: u32) -> usize
 }
 
 // What is written of a field, behind its separator.
-fn put_shown(
-    buffer: &mut [u8],
-    at: usize,
-    what: Option<u64>,
-    fronts: &[u8],
-    lengths: &[u8],
-) -> usize
-    requires { (fronts.now ≡ front_table) × (lengths.now ≡ front_lengths) }
+fn put_shown(buffer: &mut [u8], at: usize, what: Option<u64>) -> usize
     ensures { placed result buffer.new ≡ put_all (shown_text what) (placed at buffer.old) }
 {
     let Some(w) = what else {
         return at;
     };
     let i = put_byte(buffer, at, separator_of(field_in(w)));
-    put_field(buffer, i, w, fronts, lengths)
+    put_field(buffer, i, w)
 }
 
 // The fields, each behind its separator, and the last newline.
-fn put_fields(buffer: &mut [u8], at: usize, fields: &[u64], fronts: &[u8], lengths: &[u8]) -> usize
-    requires { (fronts.now ≡ front_table) × (lengths.now ≡ front_lengths) }
+fn put_fields(buffer: &mut [u8], at: usize, fields: &[u64]) -> usize
     ensures { placed result buffer.new ≡ put_all (fields_text (lined [] (fields_at 0 fields.now))) (placed at buffer.old) }
 {
     let mut j = at;
     for i in 0..fields.len() {
-        j = put_shown(buffer, j, shown_at(fields, i), fronts, lengths);
+        j = put_shown(buffer, j, shown_at(fields, i));
     }
     put_byte(buffer, j, b'\n')
 }
 
 // The length of the text of the field that a number stands for, with a bound by which a separator can be added.
-fn field_length(w: u64, lengths: &[u8]) -> usize
-    requires { lengths.now ≡ front_lengths }
+fn field_length(w: u64) -> usize
     ensures exact { result ≡ length (field_text (field_in w)) }
     ensures few { result ≤ 16 }
 {
     let k = kind_in(w);
-    let front = (base::at(lengths, k, 0) % 16) as usize;
+    let length = front(k).len();
     if k < 23 {
-        return front;
+        return length;
     }
-    front + decimal_length(value_in(w))
+    length + decimal_length(value_in(w))
 }
 
 // The length of what is written of a field, with its separator.
-fn shown_length(what: Option<u64>, lengths: &[u8]) -> usize
-    requires { lengths.now ≡ front_lengths }
+fn shown_length(what: Option<u64>) -> usize
     ensures { result ≡ length (shown_text what) }
 {
     let Some(w) = what else {
         return 0;
     };
-    field_length(w, lengths) + 1
+    field_length(w) + 1
 }
 
 // The length of the text that `write` writes, if there is room for it. What is left of the room is counted, so that no sum of lengths
 // can overflow.
-fn text_length(
-    fields: &[u64],
-    v: u32,
-    instructions: u32,
-    room: usize,
-    lengths: &[u8],
-) -> Option<usize>
-    requires { lengths.now ≡ front_lengths }
+fn text_length(fields: &[u64], v: u32, instructions: u32, room: usize) -> Option<usize>
     ensures { Measured room (length (text_of_fields v instructions (fields_at 0 fields.now))) result }
 {
     let header = decimal_length(v) + decimal_length(instructions) + 8;
     let mut left = room.checked_sub(header)?;
     for i in 0..fields.len() {
-        left = left.checked_sub(shown_length(shown_at(fields, i), lengths))?;
+        left = left.checked_sub(shown_length(shown_at(fields, i)))?;
     }
     Some(room - left)
 }
@@ -189,8 +189,8 @@ pub fn write(fields: &[u64], v: u32, instructions: u32, buffer: &mut [u8]) -> Op
     ensures filled { buffer.new ≡ filled_with (text_of_fields v instructions (fields_at 0 fields.now)) buffer.old }
 {
     let room = buffer.len();
-    let total = text_length(fields, v, instructions, room, &FRONT_LENGTHS)?;
+    let total = text_length(fields, v, instructions, room)?;
     let at = put_header(buffer, 0, v, instructions);
-    put_fields(buffer, at, fields, &FRONTS, &FRONT_LENGTHS);
+    put_fields(buffer, at, fields);
     Some(total)
 }
