@@ -7,6 +7,7 @@ use native.Mathlib.Omega.{arith}
 use borrow.Author.Tests.{le-leb, lt-leb}
 use lib.ListN.{length, get_or}
 use lib.Seq.{get_or-set_same, get_or-set_other}
+use Rattle.std.proofs.Common.{Option, Some, None, Result, Ok, Err}
 use Rattle.base.specs.Choice.{pick}
 use Rattle.base.proofs.Cases.{by_test, by_equal}
 use Rattle.base.proofs.Places.{each_map, each_same}
@@ -15,25 +16,22 @@ use Rattle.sheet.specs.declared.Field.TheVariants.{Goto}
 use Rattle.sheet_field.specs.Memory.{field_word, field_in, fields_from}
 use Rattle.sheet_field.proofs.Stored.{field_in_law, fields_each, fields_more, fields_over}
 use Rattle.source.specs.Program.{Label, is_set, number_of, unset, all_set, first_unset}
-use Rattle.labels.specs.declared.Found.TheVariants.{Number, Missing as NotFound}
 use Rattle.labels.specs.Answers.{found_of}
-use Rattle.fields.specs.declared.Jump.{Jump}
-use Rattle.fields.specs.declared.Jump.TheVariants.{To, Missing}
-use Rattle.fields_put.specs.declared.Way.{Way}
-use Rattle.fields_put.specs.declared.Way.TheVariants.{On, Unset}
+use Rattle.fields_put.specs.declared.Failure.{Failure}
+use Rattle.fields_put.specs.declared.Failure.TheVariants.{Unset, Unfit}
 use Rattle.fields_put.specs.Internal.{Puts, jumps_of, LeadsOne, Leading}
 use Rattle.fields.specs.Memory.{label_numbers, jump_of, field_jumps, label_of, jumping, jumping_as}
-use Rattle.fields_put.specs.Answers.{led, refusal, led_by, led_all, told, unfit, led_of}
+use Rattle.fields_put.specs.Answers.{led, led_by, led_all, told, unfit, led_in, led_of}
 use Rattle.fields_put.proofs.Putting.{puts_kept}
 
 -- ---- one field
 
 module _ (ls : List Label) (f : Field) (fs : List Field) where
-  none_unset : jump_of f ≡ Missing → first_unset ls (jumps_of (f ∷ fs)) ≡ first_unset ls (jumps_of fs)
+  none_unset : jump_of f ≡ None → first_unset ls (jumps_of (f ∷ fs)) ≡ first_unset ls (jumps_of fs)
   unfolding field_jumps
   none_unset e = rw e refl
 
-  module _ (p : ℕ) (e : jump_of f ≡ To p) where
+  module _ (p : ℕ) (e : jump_of f ≡ Some p) where
     is_set_law : is_set ls (label_of p) ≡ true → first_unset ls (jumps_of (f ∷ fs)) ≡ first_unset ls (jumps_of fs)
     unfolding field_jumps first_unset pick
     is_set_law t = rw (e, t) refl
@@ -42,20 +40,20 @@ module _ (ls : List Label) (f : Field) (fs : List Field) where
     unfolding field_jumps first_unset pick
     is_unset t = rw (e, t) refl
 
-found_told : (n : ℕ) (ls : List Label) (l m : ℕ) → Number m ≡ found_of n ls l → (is_set ls l ≡ true) × (m ≡ number_of n ls l)
+found_told : (n : ℕ) (ls : List Label) (l m : ℕ) → Some m ≡ found_of n ls l → (is_set ls l ≡ true) × (m ≡ number_of n ls l)
 unfolding found_of pick
 found_told n ls l m e =
     by_test (is_set ls l)
     (λ t. let same : m ≡ number_of n ls l = cc (rw t at e) in (t, same))
-    (λ t. let z : ◌≡◌ {A = ℕ} 0 1 = cc (rw t at e) in absurd (omega arith))
+    (λ t. let z = rw t at e in absurd (cc))
 
-missing_told : (n : ℕ) (ls : List Label) (l : ℕ) → NotFound ≡ found_of n ls l → is_set ls l ≡ false
+missing_told : (n : ℕ) (ls : List Label) (l : ℕ) → None ≡ found_of n ls l → is_set ls l ≡ false
 unfolding found_of pick
 missing_told n ls l e =
-    by_test (is_set ls l) (λ t. let z : ◌≡◌ {A = ℕ} 0 1 = cc (rw t at e) in absurd (omega arith)) (λ t. t)
+    by_test (is_set ls l) (λ t. let z = rw t at e in absurd (cc)) (λ t. t)
 
 module _ (n : ℕ) (ls : List Label) (i : ℕ) (ws : List ℕ) (f : Field) (is_field : f ≡ field_in (get_or ws i 0)) where
-  pub lead_none : (j : Jump) → j ≡ jump_of f → j ≡ Missing → LeadsOne n ls i ws On ws
+  pub lead_none : (j : Option ℕ) → j ≡ jump_of f → j ≡ None → LeadsOne n ls i ws (Ok tt) ws
   lead_none j known e =
       let no_jump = ap jump_of (sym is_field) ∙ sym known ∙ e in
       record {
@@ -64,18 +62,18 @@ module _ (n : ℕ) (ls : List Label) (i : ℕ) (ws : List ℕ) (f : Field) (is_f
         told = λ h. (rw no_jump refl, λ fs. none_unset ls (field_in (get_or ws i 0)) fs no_jump);
       }
 
-  module _ (j : Jump) (known : j ≡ jump_of f) (p : ℕ) (e : j ≡ To p) where
-    jumps : jump_of (field_in (get_or ws i 0)) ≡ To p
+  module _ (j : Option ℕ) (known : j ≡ jump_of f) (p : ℕ) (e : j ≡ Some p) where
+    jumps : jump_of (field_in (get_or ws i 0)) ≡ Some p
     jumps = ap jump_of (sym is_field) ∙ sym known ∙ e
 
-    pub lead_unset : NotFound ≡ found_of n ls (p % label_numbers) → LeadsOne n ls i ws (Unset (p / label_numbers)) ws
+    pub lead_unset : None ≡ found_of n ls (p % label_numbers) → LeadsOne n ls i ws (Err (Unset (p / label_numbers))) ws
     lead_unset none = record {
       kept = refl;
       others = λ j h. refl;
       told = λ h fs. is_unset ls (field_in (get_or ws i 0)) fs p jumps (missing_told n ls (p % label_numbers) none);
     }
 
-    pub lead_set : (s : ℕ) → Number s ≡ found_of n ls (p % label_numbers) → (after : List ℕ) → Puts i (Goto s) ws after → LeadsOne n ls i ws On after
+    pub lead_set : (s : ℕ) → Some s ≡ found_of n ls (p % label_numbers) → (after : List ℕ) → Puts i (Goto s) ws after → LeadsOne n ls i ws (Ok tt) after
     lead_set s found after put =
         let both = found_told n ls (p % label_numbers) s found in
         record {
@@ -94,16 +92,6 @@ module _ (n : ℕ) (ls : List Label) (i : ℕ) (ws : List ℕ) (f : Field) (is_f
 -- ---- the loop
 
 module _ (n : ℕ) (ls : List Label) (m : ℕ) (ws : List ℕ) where
-  pub leading_none : Leading n ls m ws 0 ws
-  leading_none =
-      let all : m - 0 ≡ m = omega arith in
-      record {
-        kept = refl;
-        done = λ j h. absurd (omega arith);
-        others = λ j h. refl;
-        rest = ap (λ k. first_unset ls (jumps_of (fields_from 0 k ws))) all;
-      }
-
   module _ (i : ℕ) (now : List ℕ) (p : Leading n ls m ws i now) where
     here : i < m → (fs : List Field) → fields_from i (m - i) ws ≡ field_in (get_or ws i 0) ∷ fields_from (i + 1) (m - (i + 1)) ws
     here h fs = fields_more ws i m h
@@ -111,8 +99,8 @@ module _ (n : ℕ) (ls : List Label) (m : ℕ) (ws : List ℕ) where
     same_here : field_in (get_or now i 0) ≡ field_in (get_or ws i 0)
     same_here = ap field_in (p.others i (omega arith))
 
-    pub leading_more : i < m → m ≤ length ws → (r : Way) (after : List ℕ) → r ≡ On → LeadsOne n ls i now r after → Leading n ls m ws (i + 1) after
-    leading_more h room On after e one =
+    pub leading_more : i < m → m ≤ length ws → {u : Unit {0}} (r : Result (Unit {0}) Failure) (after : List ℕ) → r ≡ Ok u → LeadsOne n ls i now r after → Leading n ls m ws (i + 1) after
+    leading_more h room (Ok v) after e one =
         let way = one.told (omega (arith, p.kept)) in
         record {
           kept = one.kept ∙ p.kept;
@@ -126,13 +114,15 @@ module _ (n : ℕ) (ls : List Label) (m : ℕ) (ws : List ℕ) where
               ∙ ap (λ l. first_unset ls (jumps_of l)) (sym (fields_more ws i m h))
               ∙ p.rest;
         }
-    leading_more h room (Unset k) after e one = let z : ◌≡◌ {A = ℕ} 0 1 = cc in absurd (omega arith)
+    leading_more h room (Err f) after e one = absurd (cc)
 
-    pub leading_stops : i < m → m ≤ length ws → (r : Way) (after : List ℕ) (k : ℕ) → r ≡ Unset k → LeadsOne n ls i now r after
-        → (told (refusal 9 k) ≡ led_of n ls m ws) × (length after ≡ length ws)
+    pub leading_stops : i < m → m ≤ length ws → (f : Failure) (r : Result (Unit {0}) Failure) (after : List ℕ) → r ≡ Err f → LeadsOne n ls i now r after
+        → (led_in (Err f) m after ≡ led_of n ls m ws) × (length after ≡ length ws)
     unfolding led_of pick
-    leading_stops h room On after k e one = let z : ◌≡◌ {A = ℕ} 0 1 = cc in absurd (omega arith)
-    leading_stops h room (Unset j) after k e one =
+    leading_stops h room f (Ok v) after e one = absurd (cc)
+    leading_stops h room f (Err Unfit) after e one = absurd (one.told (omega (arith, p.kept)))
+    leading_stops h room Unfit (Err (Unset j)) after e one = absurd (cc)
+    leading_stops h room (Unset k) (Err (Unset j)) after e one =
         let same : j ≡ k = cc in
         let first =
         sym p.rest

@@ -1,22 +1,19 @@
 -- Fields put behind others.
-use Prim.Native.Nat.{ℕ, ◌+◌, ◌-◌, ◌<◌, ◌≤◌}
+use Prim.Native.Nat.{ℕ, ◌+◌, ◌<◌, ◌≤◌}
 use mathlib.Core.Path.{◌≡◌, refl, sym, ap, ap₂, ◌∙◌}
-use mathlib.Core.Bool.{Bool, true, false}
+use mathlib.Core.Bool.{Bool, false}
 use mathlib.Core.List.{List, [], ◌∷◌, ◌++◌, map, append-nil, append_assoc}
 use native.Mathlib.Omega.{arith}
 use native.Mathlib.Nat.{zero-add}
-use borrow.Author.Tests.{le-leb, lt-leb, leb-true}
+use borrow.Author.Tests.{le-leb, lt-leb}
 use lib.Dec.{leb}
 use lib.ListN.{length, get_or, take, length-map, length-set}
 use Rattle.base.specs.Choice.{pick}
-use Rattle.base.proofs.Cases.{by_less}
 use Rattle.sheet.specs.declared.Field.{Field}
-use Rattle.sheet.specs.declared.Field.TheVariants.{Goto}
 use Rattle.sheet_field.specs.Memory.{field_word, field_in, fields_at, fields_from}
 use Rattle.sheet_field.proofs.Stored.{fields_parted, field_stored, fields_held}
-use Rattle.fields.specs.declared.Jump.TheVariants.{To, Missing}
-use Rattle.fields_put.specs.Internal.{Puts, Appends}
-use Rattle.fields.specs.Memory.{jump_of, packed_jump, packed_field}
+use Rattle.fields_put.specs.Internal.{Puts}
+use Rattle.fields.specs.Memory.{packed_field}
 use Rattle.fields_put.specs.Answers.{fields, no_room, put_of, push_of}
 
 -- ---- one field
@@ -28,13 +25,6 @@ puts_kept {at} {f} {ws} p = ap length p.stored ∙ length-set ws at (field_word 
 pub put_behind : {n : ℕ} {f : Field} {ws after : List ℕ} → Puts n f ws after → n < length ws
     → fields_from 0 (n + 1) after ≡ fields_from 0 n ws ++ (f ∷ [])
 put_behind {n} {f} {ws} p h = rw p.stored (rw (zero-add n) at (field_stored 0 n f ws p.fits (omega arith)))
-
-module _ (k : ℕ) (f : Field) where
-  pub packed_jump_law : (l : ℕ) → jump_of f ≡ To l → Goto (packed_jump k l) ≡ packed_field k f
-  packed_jump_law l e = rw e refl
-
-  pub packed_other : jump_of f ≡ Missing → f ≡ packed_field k f
-  packed_other e = rw e refl
 
 -- ---- the loop
 
@@ -62,65 +52,43 @@ held_length ws = length-map ws field_in
 
 module _ (k : ℕ) (own : List ℕ) (at : ℕ) (ws : List ℕ) where
   -- the first i of them are put
-  pub record Loop (i place : ℕ) (now : List ℕ) : Type 0 where
+  pub record Loop (i : ℕ) (now : List ℕ) : Type 0 where
     pub kept : length now ≡ length ws
-    pub counted : place ≡ at + i
     pub inside : i ≤ length own
-    pub put : at + length own ≤ length ws → fields_from 0 (at + i) now ≡ fields_from 0 at ws ++ map (packed_field k) (fields_from 0 i own)
+    pub put : fields_from 0 (at + i) now ≡ fields_from 0 at ws ++ map (packed_field k) (fields_from 0 i own)
 
-  pub loop_none : Loop 0 at ws
+  pub loop_none : Loop 0 ws
   unfolding fields_from
   loop_none = record {
     kept = refl;
-    counted = omega arith;
     inside = omega arith;
-    put = λ room. let same : at + 0 ≡ at = omega arith in rw same (sym (append-nil (fields_from 0 at ws)));
+    put = let same : at + 0 ≡ at = omega arith in rw same (sym (append-nil (fields_from 0 at ws)));
   }
 
-  module _ (i place : ℕ) (now : List ℕ) (p : Loop i place now) where
-    pub loop_full : length now ≤ place → i < length own → Appends k own at ws now
-    loop_full full h = record { kept = p.kept; told = λ room. absurd (omega (arith, p.kept, p.counted)) }
-
-    pub loop_more : i < length own → place < length now → (f g : Field) → f ≡ field_in (get_or own i 0) → g ≡ packed_field k f → (after : List ℕ)
-        → Puts place g now after → Loop (i + 1) (place + 1) after
-    loop_more h row f g is_field is_packed after put = record {
+  module _ (room : at + length own ≤ length ws) (i : ℕ) (now : List ℕ) (p : Loop i now) where
+    pub loop_more : i < length own → (f g : Field) → f ≡ field_in (get_or own i 0) → g ≡ packed_field k f → (after : List ℕ)
+        → Puts (at + i) g now after → Loop (i + 1) after
+    loop_more h f g is_field is_packed after put = record {
       kept = puts_kept put ∙ p.kept;
-      counted = omega (arith, p.counted);
       inside = omega arith;
-      put = λ room.
-          let same : at + (i + 1) ≡ place + 1 = omega (arith, p.counted) in
+      put =
+          let same : at + (i + 1) ≡ at + i + 1 = omega arith in
           ap (λ n. fields_from 0 n after) same
-          ∙ put_behind put row
+          ∙ put_behind put (omega (arith, p.kept))
           ∙ ap₂ (λ l x. l ++ (x ∷ []))
-          (ap (λ n. fields_from 0 n now) p.counted ∙ p.put room)
+          p.put
           (is_packed ∙ ap (packed_field k) is_field)
           ∙ append_assoc (fields_from 0 at ws) (map (packed_field k) (fields_from 0 i own)) (packed_field k (field_in (get_or own i 0)) ∷ [])
           ∙ ap (λ l. fields_from 0 at ws ++ l)
           (sym (ap (map (packed_field k)) (one_more_law i own) ∙ map_more k (fields_from 0 i own) (field_in (get_or own i 0))));
     }
 
-    pub loop_ends : length own ≤ i → Appends k own at ws now
+    pub loop_ends : length own ≤ i → fields (fields_from 0 (at + length own) now) ≡ put_of k (fields_at 0 own) at ws
+    unfolding put_of pick
     loop_ends h =
         let same : i ≡ length own = omega (arith, p.inside) in
-        record {
-          kept = p.kept;
-          told = λ room. record {
-            told =
-                ap (λ n. fields_from 0 (at + n) now) (held_length own)
-                ∙ (rw (same, all_held own) at (p.put room));
-          };
-        }
-
--- ---- any array
-
-pub no_places : (room at n : ℕ) → room < n → false ≡ leb (at + n) room
-no_places room at n h = sym (lt-leb (at + n) room (omega arith))
-
-pub places_left : (room at n : ℕ) → n ≤ room → leb at (room - n) ≡ leb (at + n) room
-places_left room at n h =
-    by_less (room - n) at
-    (λ less. lt-leb at (room - n) less ∙ sym (lt-leb (at + n) room (omega arith)))
-    (λ more. le-leb at (room - n) more ∙ sym (le-leb (at + n) room (omega arith)))
+        let long = ap (λ n. at + n) (held_length own) in
+        rw (long, le-leb (at + length own) (length ws) room) (ap fields (rw (same, all_held own) at p.put))
 
 module _ (k : ℕ) (fs : List Field) (at : ℕ) (ws : List ℕ) where
   -- with room for the fields
@@ -128,24 +96,9 @@ module _ (k : ℕ) (fs : List Field) (at : ℕ) (ws : List ℕ) where
   unfolding put_of pick
   put_fit h = rw (le-leb (at + length fs) (length ws) h) refl
 
-  no_room_law : leb (at + length fs) (length ws) ≡ false → no_room ≡ put_of k fs at ws
-  unfolding put_of pick
-  no_room_law e = rw e refl
-
-module _ (k : ℕ) (own : List ℕ) (at : ℕ) (ws : List ℕ) (t : Bool) (known : t ≡ leb (at + length own) (length ws)) where
-  pub append_whole : t ≡ true → (after : List ℕ) → Appends k own at ws after
-      → (fields (fields_from 0 (at + length own) after) ≡ put_of k (fields_at 0 own) at ws) × (length after ≡ length ws)
-  append_whole e after p =
-      let room = leb-true (at + length own) (length ws) (sym known ∙ e) in (
-        ap (λ n. fields (fields_from 0 (at + n) after)) (sym (held_length own))
-            ∙ ap fields (p.told room).told
-            ∙ sym (put_fit k (fields_at 0 own) at ws (omega (arith, room, held_length own))),
-        p.kept,
-      )
-
-  pub append_none : t ≡ false → (no_room ≡ put_of k (fields_at 0 own) at ws) × (length ws ≡ length ws)
-  append_none e =
-      (no_room_law k (fields_at 0 own) at ws (ap (λ n. leb (at + n) (length ws)) (held_length own) ∙ sym known ∙ e), refl)
+pub put_none : (k : ℕ) (own : List ℕ) (at : ℕ) (ws : List ℕ) {t : Bool} → t ≡ leb (at + length own) (length ws) → t ≡ false → no_room ≡ put_of k (fields_at 0 own) at ws
+unfolding put_of pick
+put_none k own at ws known e = rw (held_length own, sym known ∙ e) refl
 
 module _ (f : Field) (at : ℕ) (ws : List ℕ) where
   pub push_none : length ws ≤ at → no_room ≡ push_of f at ws

@@ -1,13 +1,12 @@
 -- What putting fields behind others and leading their jumps to instructions does. Comments in quotes are document 01's words.
-use Rattle.std.specs.Prelude.{ℕ, ◌+◌, List, [], ◌∷◌, ◌++◌, map, leb, length}
+use Rattle.std.specs.Prelude.{ℕ, ◌+◌, List, [], ◌∷◌, ◌++◌, map, leb, length, Result, Ok, Err}
 use Rattle.base.specs.Choice.{pick}
 use Rattle.sheet.specs.declared.Field.{Field}
 use Rattle.sheet_field.specs.Memory.{fields_from}
 use Rattle.source.specs.Program.{Label, number_of, Unset as UnsetJump, unset, all_set, first_unset}
-use Rattle.fields_put.specs.declared.Put.{Put}
-use Rattle.fields_put.specs.declared.Put.TheVariants.{Fields as PutFields, Unfit as NotPut}
-use Rattle.fields_put.specs.declared.Led.{Led}
-use Rattle.fields_put.specs.declared.Led.TheVariants.{All, Unset, Unfit as NotLed}
+use Rattle.fields_put.specs.declared.Unfit.{Unfit}
+use Rattle.fields_put.specs.declared.Failure.{Failure}
+use Rattle.fields_put.specs.declared.Failure.TheVariants.{Unset, Unfit as NotLed}
 use Rattle.fields.specs.Memory.{field_jumps, packed_field, label_of, jumping, jump_in}
 
 -- ---- putting fields behind others
@@ -17,9 +16,9 @@ pub data Fields : Type 0 where
   fields : List Field → Fields
   no_room : Fields
 
-abbrev pub put_in : Put → List ℕ → Fields
-put_in (PutFields n) ws = fields (fields_from 0 n ws)
-put_in NotPut ws = no_room
+abbrev pub put_in : Result ℕ Unfit → List ℕ → Fields
+put_in (Ok n) ws = fields (fields_from 0 n ws)
+put_in (Err e) ws = no_room
 
 -- what putting the fields fs of statement k behind the first `at` of an array does
 unfoldable pub put_of : ℕ → List Field → ℕ → List ℕ → Fields
@@ -51,10 +50,10 @@ pub data Told : Type 0 where
   told : LedFields → Told
   unfit : Told
 
-abbrev pub led_in : Led → ℕ → List ℕ → Told
-led_in All n ws = told (led (fields_from 0 n ws))
-led_in (Unset k) n ws = told (refusal 9 k)
-led_in NotLed n ws = unfit
+abbrev pub led_in : Result (Unit {0}) Failure → ℕ → List ℕ → Told
+led_in (Ok u) n ws = told (led (fields_from 0 n ws))
+led_in (Err (Unset k)) n ws = told (refusal 9 k)
+led_in (Err NotLed) n ws = unfit
 
 -- what leading the jumps of the first m fields of an array does, where it has a place for each
 unfoldable pub led_of : ℕ → List Label → ℕ → List ℕ → Told

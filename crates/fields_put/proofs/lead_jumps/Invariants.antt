@@ -1,10 +1,6 @@
-use Prim.Native.Nat.{◌-◌, ◌≤◌}
 use Rattle.labels.specs.Memory.{labels_of}
 use Rattle.fields_put.specs.Internal.{Leading}
 use Rattle.fields_put.proofs.lead_jumps.Given as goal
 
 abbrev pub invariant-loop-i : goal.invariant-loop-i
-invariant-loop-i l = Leading l.next (labels_of l.next l.count l.labels) l.n l.initial.fields l.i l.fields × (l.i ≤ l.n)
-
-abbrev pub decreases-loop-i : goal.decreases-loop-i
-decreases-loop-i l = l.n - l.i
+invariant-loop-i l = Leading l.next (labels_of l.next l.count l.labels) l.n l.initial.fields l.i l.fields
