@@ -99,7 +99,12 @@ fn conditional(tokens: &Tokens<'_>, at: usize, fields: &mut [u64], out: usize) -
     None
 }
 
-pub fn instruction(tokens: &Tokens<'_>, at: usize, fields: &mut [u64], out: usize) -> Option<Instructed>
+pub fn instruction(
+    tokens: &Tokens<'_>,
+    at: usize,
+    fields: &mut [u64],
+    out: usize,
+) -> Option<Instructed>
     requires { Ready tokens.now.count at out fields.old }
     ensures moved { MovedOn 1 tokens.now.count at out result }
     ensures read { output_in tokens.now result fields.new

@@ -64,7 +64,12 @@ fn brackets(tokens: &Tokens<'_>, stack: &mut [u32], s: Reading) -> Reading
 }
 
 // A member: the brackets before it, and a comparison.
-pub fn member(tokens: &Tokens<'_>, fields: &mut [u64], stack: &mut [u32], s: Reading) -> Option<Reading>
+pub fn member(
+    tokens: &Tokens<'_>,
+    fields: &mut [u64],
+    stack: &mut [u32],
+    s: Reading,
+) -> Option<Reading>
     requires { Inside tokens.now.count fields.old stack.old s }
     ensures moved { Onward tokens.now.count s result }
     ensures read { Adds tokens.now s fields.old stack.old
@@ -142,7 +147,13 @@ fn last_by(w: u32, s: Reading) -> usize
 }
 
 // A word behind a member, and the member behind it.
-pub fn joined(tokens: &Tokens<'_>, fields: &mut [u64], stack: &mut [u32], s: Reading, w: u32) -> Option<Reading>
+pub fn joined(
+    tokens: &Tokens<'_>,
+    fields: &mut [u64],
+    stack: &mut [u32],
+    s: Reading,
+    w: u32,
+) -> Option<Reading>
     requires { Inside tokens.now.count fields.old stack.old s × (s.at < tokens.now.count) × (0 < w) × (w ≤ 2) }
     ensures moved { Onward tokens.now.count s result }
     ensures read { Joins w tokens.now s fields.old stack.old

@@ -33,7 +33,7 @@ loop-stack-init c =
 pub returns-in-0-clause-read : goal.returns-in-0-clause-read
 returns-in-0-clause-read c =
     let i = c.loop-stack.invariant in
-    word_end _ _ _ _ _ _ i.inside (sym c.word_behind.ensures ∙ c.in-0.is) (omega (arith, c.if-s-eq0.true))
+    word_end _ _ _ _ _ _ i.inside (sym c.word_behind.ensures ∙ c.in-0.is) (omega arith)
     (i.to_come _ _ (c.in_ok-s.ensures.read _ _ (starts_at _ _ _ _ _ _ c.begun.ensures c.requires.inside)))
 
 pub returns-in_err-s-in-0-2-clause-read : goal.returns-in_err-s-in-0-2-clause-read

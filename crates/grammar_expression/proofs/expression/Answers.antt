@@ -43,7 +43,7 @@ loop-o-preserved-in_ok-s-in-Some c =
 pub returns-in-None-clause-read : goal.returns-in-None-clause-read
 returns-in-None-clause-read c =
     let i = c.loop-o.invariant in
-    link_end _ _ _ _ _ i.inside (sym c.link_at.ensures.found ∙ c.in-None.is) c.if-s-eq0.true
+    link_end _ _ _ _ _ i.inside (sym c.link_at.ensures.found ∙ c.in-None.is) (omega arith)
     (i.to_come _ (c.in_ok-s.ensures.read _ (starts_at _ _ _ _ _ _ _ _ c.begun.ensures c.requires.inside c.open-o.ensures)))
 
 pub returns-in_err-s-in-None-2-clause-read : goal.returns-in_err-s-in-None-2-clause-read

@@ -16,4 +16,3 @@ returns-in_err-simple-clause-read c =
 pub returns-clause-read : goal.returns-clause-read
 returns-clause-read c =
     simple_read_law c.args.tokens.now _ _ (Some c.in_ok-simple.field-0) _ (sym c.mark_at.ensures.found ∙ c.if-mark_at.false) c.in_ok-simple.ensures.read
-
