@@ -2,11 +2,11 @@
 #![tactic(auto)]
 
 ghost use Rattle.std.specs.Prelude.{◌≡◌, take};
-ghost use Rattle.object_reader.specs.Answers.{refusal_of};
+ghost use Rattle.object_reader.specs.Answers.{verdict};
 ghost use Rattle.call.specs.Reply.{reply as reply_of};
 ghost use Rattle.call.specs.Answers.{verdict_reply};
 
-use object_reader::Refusal;
+use object_reader::{Frame, Refusal};
 
 pub fn reply(number: u32, value: u32) -> u64
     ensures { result ≡ reply_of number value }
@@ -21,15 +21,16 @@ pub fn front(words: &[u64], n: usize) -> &[u64]
     &words[..n.min(words.len())]
 }
 
-// The reply to an object that is refused.
-pub fn refusal(reason: Refusal) -> u64
-    ensures { result ≡ verdict_reply (refusal_of reason) }
+// The reply to an object that is refused; 0 for one that is good.
+pub fn refusal(reading: Result<Frame, Refusal>) -> u64
+    ensures { result ≡ verdict_reply (verdict reading) }
 {
-    match reason {
-        Refusal::Header => reply(21, 0),
-        Refusal::Line(place) => reply(22, place),
-        Refusal::Word(place) => reply(23, place),
-        Refusal::Address(place) => reply(24, place),
-        Refusal::Stop(place) => reply(25, place),
+    match reading {
+        Ok(_) => reply(0, 0),
+        Err(Refusal::Header) => reply(21, 0),
+        Err(Refusal::Line(place)) => reply(22, place),
+        Err(Refusal::Word(place)) => reply(23, place),
+        Err(Refusal::Address(place)) => reply(24, place),
+        Err(Refusal::Stop(place)) => reply(25, place),
     }
 }

@@ -108,6 +108,6 @@ pub fn run(object: &[u8], state: &mut [u8], output: &mut [u8], budget: u32) -> u
             let words = (frame.variables + frame.temporaries + 2) as usize;
             run_orders(&orders, words, frame.orders, state, output, budget)
         }
-        Err(reason) => refusal(reason),
+        Err(reason) => refusal(Err(reason)),
     }
 }
