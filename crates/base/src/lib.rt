@@ -1,18 +1,8 @@
-// What several crates use: the larger of two numbers, reading and storing at any place, and parts of a slice. Behind the end of
-// a slice 0 is read, nothing is stored and a part has ended, so these need no bounds. Definitions and laws are in specs/ and
-// proofs/.
+// What several crates use: reading and storing at any place, and parts of a slice. Behind the end of a slice nothing is stored and a
+// part has ended, so these need no bounds. Definitions and laws are in specs/ and proofs/.
 #![tactic(auto)]
 
-ghost use Rattle.std.specs.Prelude.{◌≡◌, max, get_or, set, take, drop};
-
-pub fn larger(a: u32, b: u32) -> u32
-    ensures { result ≡ max a b }
-{
-    if a < b {
-        return b;
-    }
-    a
-}
+ghost use Rattle.std.specs.Prelude.{◌≡◌, get_or, set, take, drop};
 
 // What stands at a place, or `otherwise` behind the end.
 pub fn at<T: Copy>(items: &[T], i: usize, otherwise: T) -> T
@@ -27,40 +17,6 @@ pub fn put<T: Copy>(items: &mut [T], i: usize, item: T)
 {
     if i < items.len() {
         items[i] = item;
-    }
-}
-
-pub fn byte_at(bytes: &[u8], i: usize) -> u8
-    ensures { result ≡ get_or bytes.now i 0 }
-{
-    if i < bytes.len() {
-        return bytes[i];
-    }
-    0
-}
-
-pub fn word_at(words: &[u32], i: usize) -> u32
-    ensures { result ≡ get_or words.now i 0 }
-{
-    if i < words.len() {
-        return words[i];
-    }
-    0
-}
-
-pub fn put_byte(bytes: &mut [u8], i: usize, b: u8)
-    ensures { bytes.new ≡ set bytes.old i b }
-{
-    if i < bytes.len() {
-        bytes[i] = b;
-    }
-}
-
-pub fn put_word(words: &mut [u32], i: usize, w: u32)
-    ensures { words.new ≡ set words.old i w }
-{
-    if i < words.len() {
-        words[i] = w;
     }
 }
 
