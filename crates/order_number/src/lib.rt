@@ -5,8 +5,8 @@ ghost use Rattle.std.specs.Prelude.{◌≡◌, ◌<◌, ◌+◌, ◌*◌, get_or
 ghost use Rattle.order.specs.Order.{operand, operations};
 ghost use Rattle.order.specs.Memory.{operation_number, branch_number, number, order_of, order_word, order_in};
 ghost use Rattle.order.specs.declared.Operation.TheVariants.{Cmp};
-ghost use Rattle.order_number.specs.Internal.{plain_order};
 
+use base::put;
 use order::{Operation, Order};
 use word::Relation;
 
@@ -67,17 +67,9 @@ pub fn operand_of(o: Order) -> u32
     ensures { result ≡ operand o }
 {
     match o {
-        Order::Word(_, w) => w,
-        Order::Number(_, n) => n,
-        Order::Store(w) => w,
-        Order::Neg => 0,
-        Order::Not => 0,
-        Order::Jump(a) => a,
-        Order::Skip(a) => a,
-        Order::Branch(_, a) => a,
-        Order::Cond(n) => n,
-        Order::Send => 0,
-        Order::Stop => 0,
+        Order::Word(_, n) | Order::Number(_, n) | Order::Store(n) | Order::Cond(n) => n,
+        Order::Jump(n) | Order::Skip(n) | Order::Branch(_, n) => n,
+        Order::Neg | Order::Not | Order::Send | Order::Stop => 0,
     }
 }
 
@@ -101,9 +93,10 @@ fn operation(k: u8) -> Operation
     }
 }
 
-// An order with a number below 12: one that is no operation with a word or a number.
-fn plain_order(k: u8, v: u32) -> Order
-    ensures { result ≡ plain_order k v }
+// The order with a number and an operand; STOP where no order has the number.
+#[tactic(auto, unfolding(order::specs::Memory::order_of, order::specs::Memory::shapes))]
+pub fn order_of(k: u8, v: u32) -> Order
+    ensures { result ≡ order_of k v }
 {
     match k {
         0 => Order::Stop,
@@ -118,30 +111,12 @@ fn plain_order(k: u8, v: u32) -> Order
         9 => Order::Branch(Relation::Greater, v),
         10 => Order::Branch(Relation::AtLeast, v),
         11 => Order::Store(v),
+        12..=23 => Order::Word(operation(k - 12), v),
+        24..=35 => Order::Number(operation(k - 24), v),
+        36 => Order::Skip(v),
+        37 => Order::Cond(v),
         _ => Order::Stop,
     }
-}
-
-// The order with a number and an operand; STOP where no order has the number.
-pub fn order_of(k: u8, v: u32) -> Order
-    ensures { result ≡ order_of k v }
-{
-    if k < 12 {
-        return plain_order(k, v);
-    }
-    if k < 24 {
-        return Order::Word(operation(k - 12), v);
-    }
-    if k < 36 {
-        return Order::Number(operation(k - 24), v);
-    }
-    if k == 36 {
-        return Order::Skip(v);
-    }
-    if k == 37 {
-        return Order::Cond(v);
-    }
-    Order::Stop
 }
 
 fn packed(k: u8, v: u32) -> u64
@@ -172,7 +147,5 @@ pub fn order_in(w: u64) -> Order
 pub fn put_order(orders: &mut [u64], i: usize, o: Order)
     ensures { orders.new ≡ set orders.old i (order_word o) }
 {
-    if i < orders.len() {
-        orders[i] = order_word(o);
-    }
+    put(orders, i, order_word(o));
 }

@@ -1,34 +1,45 @@
 -- The turns of the loops that read a fixed string and a number: each is stated of the text left at place i.
 use Prim.Native.Nat.{ℕ, ◌+◌, ◌-◌, ◌*◌, ◌<◌, ◌≤◌}
 use mathlib.Core.Path.{◌≡◌, refl}
-use mathlib.Core.List.{List, []}
-use borrow.Author.Tests.{eq-eqb, ne_eqb}
+use mathlib.Core.Logic.{◌⊎◌, inl, inr}
+use native.Mathlib.Omega.{arith}
+use mathlib.Core.List.{List, [], ◌∷◌}
+use borrow.Author.Tests.{lt-ltb, le-ltb}
 use lib.Dec.{ltb, eqb}
-use lib.ListN.{length, get_or, drop, drop_of_length-le}
+use lib.Pointwise.{pointwise}
+use mathlib.Core.Bool.{true, false}
+use Rattle.base.proofs.Cases.{by_test}
+use lib.ListN.{length, get_or, take, drop, drop_of_length-le}
 use Rattle.base.specs.Choice.{pick}
 use Rattle.base.specs.Front.{found, missing}
 use Rattle.base.proofs.Lists.{drop_more}
-use Rattle.text.specs.Pieces.{fixed, digits, numeral, greatest_number}
+use Rattle.text.specs.Pieces.{Front, fixed, digits, numeral, greatest_number}
 
-module _ (string s : List ℕ) (k i : ℕ) where
-  -- the string is read to its end
-  pub fixed_over : length string ≤ k → found [] (drop i s) ≡ fixed (drop k string) (drop i s)
-  unfolding fixed
-  fixed_over h = rw (drop_of_length-le string h) refl
+-- a fixed string, by the comparison of the text's front with it
+pub fixed_equal : (cs l : List ℕ) → pointwise eqb (take (length cs) l) cs ≡ true → found [] (drop (length cs) l) ≡ fixed cs l
+unfolding fixed pick
+fixed_equal [] l e = refl
+fixed_equal (c ∷ cs) [] e = cc
+fixed_equal (c ∷ cs) (b ∷ l) e =
+    by_test (eqb b c) (λ y. rw y (fixed_equal cs l (rw y at e))) (λ n. let z = rw n at e in cc)
 
-  -- the text ends before it
-  pub fixed_short : k < length string → length s ≤ i → missing ≡ fixed (drop k string) (drop i s)
-  unfolding fixed
-  fixed_short h g = rw (drop_more string k 0 h, drop_of_length-le s g) refl
+pub fixed_unequal : (cs l : List ℕ) → pointwise eqb (take (length cs) l) cs ≡ false → missing ≡ fixed cs l
+unfolding fixed pick
+fixed_unequal [] l e = cc
+fixed_unequal (c ∷ cs) [] e = refl
+fixed_unequal (c ∷ cs) (b ∷ l) e =
+    by_test (eqb b c) (λ y. rw y (fixed_unequal cs l (rw y at e))) (λ n. rw n refl)
 
-  module _ (h : k < length string) (g : i < length s) where
-    pub fixed_other : (get_or s i 0 ≡ get_or string k 0 → ⊥) → missing ≡ fixed (drop k string) (drop i s)
-    unfolding fixed pick
-    fixed_other n = rw (drop_more string k 0 h, drop_more s i 0 g, ne_eqb _ _ n) refl
+-- a byte that is no digit, and one that is
+module _ {A : Type 0} (b : ℕ) (x : Front A) where
+  pub no_digit : (b < 48) ⊎ (57 < b) → missing ≡ pick (ltb b 48) missing (pick (ltb 57 b) missing x)
+  unfolding pick
+  no_digit (inl low) = rw (lt-ltb b 48 low) refl
+  no_digit (inr high) = rw (le-ltb b 48 (omega arith), lt-ltb 57 b high) refl
 
-    pub fixed_turn : get_or s i 0 ≡ get_or string k 0 → fixed (drop (k + 1) string) (drop (i + 1) s) ≡ fixed (drop k string) (drop i s)
-    unfolding fixed pick
-    fixed_turn e = rw (drop_more string k 0 h, drop_more s i 0 g, eq-eqb _ _ e) refl
+  pub a_digit : (48 ≤ b) × (b ≤ 57) → x ≡ pick (ltb b 48) missing (pick (ltb 57 b) missing x)
+  unfolding pick
+  a_digit d = rw (le-ltb b 48 d.0, le-ltb 57 b d.1) refl
 
 module _ (s : List ℕ) (close v i : ℕ) where
   pub digits_short : length s ≤ i → missing ≡ digits close v (drop i s)
@@ -63,9 +74,11 @@ module _ (s : List ℕ) (close i : ℕ) where
   unfolding numeral
   numeral_short g = rw (drop_of_length-le s g) refl
 
+  -- b is the byte there
   pub numeral_here :
-      i < length s
-      → numeral close (drop i s)
-      ≡ pick (ltb (get_or s i 0) 48) missing (pick (ltb 57 (get_or s i 0)) missing (digits close (get_or s i 0 - 48) (drop (i + 1) s)))
+      (b : ℕ)
+      → i < length s
+      → b ≡ get_or s i 0
+      → numeral close (drop i s) ≡ pick (ltb b 48) missing (pick (ltb 57 b) missing (digits close (b - 48) (drop (i + 1) s)))
   unfolding numeral
-  numeral_here g = rw (drop_more s i 0 g) refl
+  numeral_here b g e = rw (e, drop_more s i 0 g) refl

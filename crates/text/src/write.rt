@@ -19,10 +19,8 @@ pub fn put_fixed(buffer: &mut [u8], at: usize, string: &[u8]) -> usize
     ensures { placed result buffer.new ≡ put_all string.now (placed at buffer.old) }
 {
     let mut i = at;
-    let mut k = 0;
-    while k < string.len() {
-        i = put_byte(buffer, i, string[k]);
-        k += 1;
+    for &b in string {
+        i = put_byte(buffer, i, b);
     }
     i
 }

@@ -1,21 +1,13 @@
-use mathlib.Core.Path.{◌∙◌}
-use Rattle.order_number.proofs.Numbering.{order_plain, word_again, number_again, skip_again, cond_again, past_cond}
+use native.Mathlib.Omega.{arith}
+use Rattle.order.proofs.Numbers.{no_order}
+use Rattle.order_number.proofs.Numbering.{word_again, number_again}
 use Rattle.order_number.proofs.order_of.Goals as goal
 
-pub returns-then-k-lt12 : goal.returns-then-k-lt12
-returns-then-k-lt12 c = c.plain_order.ensures ∙ order_plain _ _ c.if-k-lt12.true
+pub returns-in-12-to-23 : goal.returns-in-12-to-23
+returns-in-12-to-23 c = rw c.operation.ensures (word_again c.args.k _ (omega arith) (omega arith))
 
-pub returns-then-k-lt24 : goal.returns-then-k-lt24
-returns-then-k-lt24 c = rw c.operation.ensures (word_again _ _ c.if-k-lt12.false c.if-k-lt24.true)
+pub returns-in-24-to-35 : goal.returns-in-24-to-35
+returns-in-24-to-35 c = rw c.operation-in-24-to-35.ensures (number_again c.args.k _ (omega arith) (omega arith))
 
-pub returns-then-k-lt36 : goal.returns-then-k-lt36
-returns-then-k-lt36 c = rw c.operation-then-k-lt36.ensures (number_again _ _ c.if-k-lt24.false c.if-k-lt36.true)
-
-pub returns-then-k-eq36 : goal.returns-then-k-eq36
-returns-then-k-eq36 c = skip_again _ _ c.if-k-eq36.true
-
-pub returns-then-k-eq37 : goal.returns-then-k-eq37
-returns-then-k-eq37 c = cond_again _ _ c.if-k-eq37.true
-
-pub returns : goal.returns
-returns c = past_cond _ _ c.if-k-lt36.false c.if-k-eq36.false c.if-k-eq37.false
+pub returns-in_default : goal.returns-in_default
+returns-in_default c = no_order c.args.k _ (omega arith)

@@ -1,17 +1,17 @@
-use Rattle.base.proofs.Cases.{cases}
-use Rattle.text.proofs.Turns.{numeral_short, numeral_here}
+use Rattle.text.proofs.Turns.{numeral_short, numeral_here, no_digit}
 use Rattle.text.proofs.Places.{with_place}
 use Rattle.text.proofs.read.numeral_at.Goals as goal
 
-pub returns-then-s-at : goal.returns-then-s-at
-returns-then-s-at c = record { read = numeral_short _ _ _ c.if-s-at.true; place = tt }
+pub returns-in_err-b-clause-read : goal.returns-in_err-b-clause-read
+returns-in_err-b-clause-read c = rw c.from_residual.ensures (numeral_short _ _ _ c.in_err-b.ensures.lookup.3)
 
-pub returns-then-b-lt48 : goal.returns-then-b-lt48
-returns-then-b-lt48 c = record { read = rw (numeral_here _ _ _ c.if-s-at.false) (search cases depth 16); place = tt }
-
-pub returns-then-b-gt57 : goal.returns-then-b-gt57
-returns-then-b-gt57 c = record { read = rw (numeral_here _ _ _ c.if-s-at.false) (search cases depth 16); place = tt }
+pub returns-then-not-is_ascii_digit-clause-read : goal.returns-then-not-is_ascii_digit-clause-read
+returns-then-not-is_ascii_digit-clause-read c =
+    let here = c.in_ok-b.ensures.lookup.3 in
+    rw (numeral_here _ _ _ _ here.0 (here.1 0)) (no_digit _ _ c.if-not-is_ascii_digit.ensures.cases)
 
 pub returns : goal.returns
-returns c = let both = (with_place _ _ _ c.digits_at.result c.if-s-at.false c.if-b-lt48.false c.if-b-gt57.false c.digits_at.ensures.read
-    c.digits_at.ensures.within) in record { read = both.0; place = both.1 }
+returns c =
+    let here = c.in_ok-b.ensures.lookup.3 in
+    let both = with_place _ _ _ c.digits_at.result _ here.0 (here.1 0) c.if-not-is_ascii_digit.ensures.cases c.digits_at.ensures.read c.digits_at.ensures.within in
+    record { read = both.0; place = both.1 }
