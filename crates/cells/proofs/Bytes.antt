@@ -49,9 +49,6 @@ pub record Reads (s : List ℕ) (at : ℕ) (cells : List ℕ) (m : Mode) (held i
   pub on : at + held ≤ i
   pub inside : i ≤ length s + (at - length s)
 
-pub reads_first : (s : List ℕ) (at : ℕ) (cells : List ℕ) → most_cells ≤ length cells → Reads s at cells Plain 0 at
-reads_first s at cells room = record { same = refl; behind = refl; room = room; few = omega arith; on = omega arith; inside = omega arith }
-
 module _ (s : List ℕ) (at : ℕ) (cells : List ℕ) (m : Mode) (held i : ℕ) (reads : Reads s at cells m held i) where
   here : i < length s → on_turn (turn m (get_or s i 0) (take held cells)) (λ n cs. statements_from n cs (drop (i + 1) s))
       ≡ statements_from Plain [] (drop at s)

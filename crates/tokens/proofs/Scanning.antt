@@ -8,7 +8,7 @@ use native.Mathlib.Omega.{arith}
 use native.Mathlib.Nat.{add-zero}
 use borrow.Author.Tests.{ne_eqb, ltb-true, leb-true, lt-ltb, le-leb}
 use lib.Dec.{ltb, leb}
-use lib.ListN.{length, get_or, take, drop, set, length-set, length-take, drop_of_length-le}
+use lib.ListN.{length, get_or, take, drop, set, length-set, drop_of_length-le}
 use lib.Seq.{get_or-set_same, get_or-set_other}
 use Rattle.base.specs.Choice.{pick}
 use Rattle.base.proofs.Cases.{by_test, both_yes}
@@ -58,16 +58,6 @@ stored_in_law cells at (Name q) few s =
 stored_on : (at size : ℕ) (a : Answer) → Sound at size a → at < (stored_of at a).behind
 stored_on at size (TokenAt t q) s = s.0
 stored_on at size (Name q) s = s.0
-
--- so fewer cells are left
-pub falls : (cells : List ℕ) (at : ℕ) (a : Answer) (o : One) → at < length cells → Is cells at (Ok a) o
-    → length cells - (stored_of at a).behind < length cells - at
-falls cells at a o h is = let on : at < (stored_of at a).behind = stored_on at (length cells) a is.sound in omega arith
-
--- a name ends within the cells
-pub within : (cells : List ℕ) (at : ℕ) (a : Answer) (o : One) → length cells < most_cells → Is cells at (Ok a) o → Sound at most_cells a
-within cells at (TokenAt t q) o few is = is.sound
-within cells at (Name q) o few is = let inside : q ≤ length cells = is.sound.1 in (is.sound.0, omega arith)
 
 -- ---- one token more
 
@@ -209,9 +199,6 @@ fits n room other e =
     let one = both_yes (ltb n most_cells) (pick (leb most_cells room) (leb most_cells other) false) e in
     let two = both_yes (leb most_cells room) (leb most_cells other) one.1 in
     record { mark = ltb-true n most_cells one.0; kinds = leb-true most_cells room two.0; values = leb-true most_cells other two.1 }
-
-pub front_few : (n : ℕ) (cells : List ℕ) → n < most_cells → length (take n cells) < most_cells
-front_few n cells few = let e = length-take n cells in omega (arith, e, few)
 
 module _ (s : Statement) (ks vs : List ℕ) where
   pub fit_told : fit s.length (length ks) (length vs) ≡ true → told (lexemes (held s)) ≡ lexed_of s ks vs

@@ -62,9 +62,6 @@ pub record Digits (cells : List ℕ) (at first i v : ℕ) : Type 0 where
   pub forward : at ≤ i
   pub inside : i ≤ length cells + (at - length cells)
 
-pub digits_first : (cells : List ℕ) (at first : ℕ) → first < 256 → Digits cells at first at first
-digits_first cells at first h = record { same = refl; small = omega arith; forward = omega arith; inside = omega arith }
-
 module _ (cells : List ℕ) (at first i v : ℕ) (digits : Digits cells at first i v) where
   module _ (h : i < length cells) where
     one_digit : (48 ≤ get_or cells i 0) × (get_or cells i 0 ≤ 57)

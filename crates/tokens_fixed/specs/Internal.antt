@@ -1,22 +1,14 @@
 -- What the private functions compute.
-use Rattle.std.specs.Prelude.{ℕ, List, ◌∷◌, drop, Option, Some, None}
+use Rattle.std.specs.Prelude.{ℕ, List, ◌∷◌, Option, Some, None}
 use Rattle.base.specs.Front.{found, missing, on_front}
 use Rattle.text.specs.Pieces.{Front}
 use Rattle.source.specs.declared.Token.{Token}
 use Rattle.source.specs.declared.Token.TheVariants.{Mark}
-use Rattle.source.specs.Tokens.{Sign, keywords, singles, first_of, One, one, wrong, token}
+use Rattle.source.specs.Tokens.{Sign, singles, first_of, One, one, wrong, token}
 
 -- the keyword at the front, if it is one of these
 unfoldable pub keyword_of : List Sign → List ℕ → One
 keyword_of signs l = on_front (first_of signs l) (λ t rest. one (token t) rest) (wrong 5)
-
--- those behind ENDOFPROGRAM, INTEGER, FINISH and BEGIN
-abbrev pub later_keywords : List Sign
-later_keywords = drop 4 keywords
-
--- those behind START, THEN and ELSE
-abbrev pub last_keywords : List Sign
-last_keywords = drop 3 later_keywords
 
 -- the token of the characters in front of l, if they are one
 abbrev pub taken : List ℕ → Option Token → Front Token

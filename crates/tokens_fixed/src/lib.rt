@@ -5,7 +5,7 @@ ghost use Rattle.std.specs.Prelude.{ℕ, ◌≡◌, ◌<◌, ◌+◌, List, ◌�
 ghost use Rattle.source.specs.Memory.{token_kind};
 ghost use Rattle.source.specs.Tokens.{one, token, pairs, first_of, keyword_at, sign_at};
 ghost use Rattle.tokens_fixed.specs.Answers.{Is};
-ghost use Rattle.tokens_fixed.specs.Internal.{keyword_of, later_keywords, last_keywords, taken, singly};
+ghost use Rattle.tokens_fixed.specs.Internal.{taken, singly};
 
 use sheet::Operator;
 use source::marks::{
@@ -21,38 +21,6 @@ use word::Relation;
 pub enum One {
     Token(Token, usize),
     Name(usize),
-}
-
-// AND, IF and OR: `last_keywords` of specs/Internal.antt.
-fn last_keyword_at(cells: &[u8], at: usize) -> Result<One, Refusal>
-    ensures { Is cells.now at result (keyword_of last_keywords (drop at cells.now)) }
-{
-    if let Some(q) = fixed_at(cells, at, b"and") {
-        return Ok(One::Token(Token::Mark(MARK_AND), q));
-    }
-    if let Some(q) = fixed_at(cells, at, b"if") {
-        return Ok(One::Token(Token::Mark(MARK_IF), q));
-    }
-    if let Some(q) = fixed_at(cells, at, b"or") {
-        return Ok(One::Token(Token::Mark(MARK_OR), q));
-    }
-    Err(Refusal::Keyword)
-}
-
-// The keywords behind the first four: `later_keywords` of specs/Internal.antt.
-fn later_keyword_at(cells: &[u8], at: usize) -> Result<One, Refusal>
-    ensures { Is cells.now at result (keyword_of later_keywords (drop at cells.now)) }
-{
-    if let Some(q) = fixed_at(cells, at, b"start") {
-        return Ok(One::Token(Token::Mark(MARK_START), q));
-    }
-    if let Some(q) = fixed_at(cells, at, b"then") {
-        return Ok(One::Token(Token::Mark(MARK_THEN), q));
-    }
-    if let Some(q) = fixed_at(cells, at, b"else") {
-        return Ok(One::Token(Token::Mark(MARK_ELSE), q));
-    }
-    last_keyword_at(cells, at)
 }
 
 // "always taking the longest of BEGIN ENDOFPROGRAM INTEGER IF THEN ELSE", of START and FINISH, and of AND and OR. Keyword letters are
@@ -72,7 +40,25 @@ pub fn keyword_at(cells: &[u8], at: usize) -> Result<One, Refusal>
     if let Some(q) = fixed_at(cells, at, b"begin") {
         return Ok(One::Token(Token::Mark(MARK_BEGIN), q));
     }
-    later_keyword_at(cells, at)
+    if let Some(q) = fixed_at(cells, at, b"start") {
+        return Ok(One::Token(Token::Mark(MARK_START), q));
+    }
+    if let Some(q) = fixed_at(cells, at, b"then") {
+        return Ok(One::Token(Token::Mark(MARK_THEN), q));
+    }
+    if let Some(q) = fixed_at(cells, at, b"else") {
+        return Ok(One::Token(Token::Mark(MARK_ELSE), q));
+    }
+    if let Some(q) = fixed_at(cells, at, b"and") {
+        return Ok(One::Token(Token::Mark(MARK_AND), q));
+    }
+    if let Some(q) = fixed_at(cells, at, b"if") {
+        return Ok(One::Token(Token::Mark(MARK_IF), q));
+    }
+    if let Some(q) = fixed_at(cells, at, b"or") {
+        return Ok(One::Token(Token::Mark(MARK_OR), q));
+    }
+    Err(Refusal::Keyword)
 }
 
 // "`** << >> !! -> <= >=` are taken whenever both characters are there."
