@@ -1,5 +1,5 @@
 -- A whole condition: behind its first member, and at its end.
-use Prim.Native.Nat.{ℕ, ◌+◌, ◌<◌, ◌≤◌}
+use Prim.Native.Nat.{ℕ, ◌+◌, ◌≤◌}
 use mathlib.Core.Path.{◌≡◌, refl, ap, ◌∙◌}
 use mathlib.Core.List.{List}
 use native.Mathlib.Omega.{arith}
@@ -15,9 +15,8 @@ use Rattle.grammar_look.specs.declared.Tokens.{Tokens}
 use Rattle.grammar_look.specs.Internal.{ahead}
 use Rattle.grammar_output.specs.Internal.{written}
 use Rattle.grammar_member.specs.declared.Reading.{Reading}
-use Rattle.grammar_member.specs.Internal.{word_behind, begun_at, Onward, Inside, Wanted, Reached}
-use Rattle.grammar_member.proofs.Words.{word_few, word_inside}
-use Rattle.grammar_member.proofs.Levels.{starts, reached_start, reached_last, reached_word}
+use Rattle.grammar_member.specs.Internal.{begun_at, Onward, Inside, Wanted, Reached}
+use Rattle.grammar_member.proofs.Levels.{starts, reached_start, reached_last}
 
 -- the words, members and closing brackets behind a member, from reading s₀ on
 pub record Following (toks : Tokens) (fs₀ stack₀ : List ℕ) (s₀ : Reading) (fs stack : List ℕ) (s : Reading) : Type 0 where
@@ -58,7 +57,7 @@ pub begun_inside : (n at out : ℕ) (fs stack : List ℕ) (b : Reading) → b �
 begun_inside n at out fs stack b e short inside few room deep =
     rw e
     (record {
-      deeply = record { short = short; inside = inside; few = omega (arith, few); deep = deep; begins = omega arith; words = omega arith };
+      deeply = record { short = short; inside = inside; few = omega (arith, few); deep = deep; begins = omega arith };
       room = room;
       ends = omega arith;
     })
@@ -74,7 +73,6 @@ following_inside toks fs₀ stack₀ s₀ fs stack s i short room =
             few = i.fewer;
             deep = omega (arith, i.deep);
             begins = reached_start toks fs stack s i.base i.some i.reached;
-            words = reached_word toks fs stack s i.base i.some i.reached;
           };
       room = omega (arith, i.long, room);
       ends = reached_last toks fs stack s i.base i.some i.reached;
@@ -96,9 +94,3 @@ starts_at toks at out fs stack b e h = rw e (starts toks at out fs stack h)
 pub none_written : (base : List Field) (all : Read Condition) → none ≡ all → none ≡ written condition_fields base all
 unfolding written
 none_written base all e = rw (← e) refl
-
--- what a word behind a member is
-pub word_requires : (toks : Tokens) (at j w : ℕ) → w ≡ word_behind j (ahead toks at) → (w ≡ 0 → ⊥)
-    → (at < toks.count) × (0 < w) × (w ≤ 2)
-word_requires toks at j w e f =
-    (word_inside toks at j (λ z. f (e ∙ z)), omega (arith, f), omega (arith, e, word_few j (ahead toks at)))

@@ -27,14 +27,14 @@ pub fn condition(tokens: &Tokens<'_>, at: usize, fields: &mut [u64], out: usize)
     let mut s = member(tokens, fields, &mut stack, begun(at, out, 0))?;
     loop {
         s = match word_behind(tokens, s.at, s.joined) {
-            0 if s.depth == 0 => {
+            Some(w) => joined(tokens, fields, &mut stack, s, w)?,
+            None if s.depth == 0 => {
                 return Some(Step {
                     at: s.at,
                     out: s.out,
                 });
             }
-            0 => closed(tokens, &stack, s)?,
-            w => joined(tokens, fields, &mut stack, s, w)?,
+            None => closed(tokens, &stack, s)?,
         };
     }
 }

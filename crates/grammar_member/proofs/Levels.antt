@@ -9,6 +9,7 @@ use lib.Seq.{get_or-set_same, get_or-set_other}
 use Rattle.std.specs.Prelude.{Option, Some, None}
 use Rattle.base.specs.Choice.{pick}
 use Rattle.word.specs.declared.Relation.{Relation}
+use Rattle.sheet.specs.declared.Joining.{Joining}
 use Rattle.sheet.specs.declared.Field.{Field}
 use Rattle.sheet.specs.declared.Field.TheVariants.{Run}
 use Rattle.sheet.specs.Sheet.{Expression, Condition, compares}
@@ -24,12 +25,12 @@ use Rattle.grammar_look.specs.Internal.{ahead}
 use Rattle.grammar_look.proofs.Places.{ahead_length, ahead_none, ahead_behind}
 use Rattle.grammar_output.specs.Internal.{written, insert_at}
 use Rattle.grammar_member.specs.declared.Reading.{Reading}
-use Rattle.grammar_member.specs.Internal.{Joint, free, by, code, joining_of, word_behind, go_on, top_of, last_of, last_place}
+use Rattle.grammar_member.specs.Internal.{code, joining_of, word_behind, go_on, top_of, last_of, last_place}
 use Rattle.grammar_member.specs.Internal.{first, behind, joint_of, add, fields_before}
 use Rattle.grammar_member.specs.Internal.{Frame, resumed, beneath, Kept, begun_at, top_by, last_by, outward_from, Onward, Wanted, Reached}
 use Rattle.grammar_member.proofs.Runs.{insert_behind, add_fields, add_last, add_top, join_top, last_within}
 use Rattle.grammar_comparison.proofs.Relations.{opens_inside}
-use Rattle.grammar_member.proofs.Words.{Coded, joining_again, code_few, go_more, go_stop, top_by_law, last_by_law}
+use Rattle.grammar_member.proofs.Words.{joining_again, code_few, go_more, go_stop, top_by_law, last_by_law}
 
 -- ---- what is to come of the conditions round a bracket
 
@@ -66,7 +67,7 @@ no_member inner = refl
 
 -- the first member of a condition inside a bracket
 begun_inside : (k : ℕ) (ts : List Token) (fs : List Frame)
-    → resumed k fs (next (member_by (condition_in k) ts) (λ m rest. go_on (condition_in k) free (suc k) (add first m) rest))
+    → resumed k fs (next (member_by (condition_in k) ts) (λ m rest. go_on (condition_in k) None (suc k) (add first m) rest))
     ≡ resumed k fs (condition_in (suc k) ts)
 unfolding condition_in
 begun_inside k ts fs = refl
@@ -114,14 +115,14 @@ joined_again p q h = omega arith
 -- ---- comparisons
 
 -- a comparison is no run
-plain_top : (b : Joint) (r : Relation) (x y : Expression) → join_top b (compares r x y) ≡ b
-plain_top free r x y = refl
-plain_top (by w) r x y = refl
+plain_top : (b : Option Joining) (r : Relation) (x y : Expression) → join_top b (compares r x y) ≡ b
+plain_top None r x y = refl
+plain_top (Some w) r x y = refl
 
-plain_last : (k : ℕ) (b : Joint) (r : Relation) (x y : Expression) → k + last_place b (compares r x y) ≡ k
+plain_last : (k : ℕ) (b : Option Joining) (r : Relation) (x y : Expression) → k + last_place b (compares r x y) ≡ k
 unfolding last_of pick
-plain_last k free r x y = omega arith
-plain_last k (by w) r x y = omega arith
+plain_last k None r x y = omega arith
+plain_last k (Some w) r x y = omega arith
 
 -- a comparison that was read behind the fields of g
 record Compared (x : Read Condition) (g gs : List Field) (rest : List Token) : Type 0 where
@@ -211,7 +212,7 @@ module _ (toks : Tokens) where
         (next (member_by (condition_in (suc k)) (ahead toks s.at))
         (λ m rest. go_on (condition_in (suc k)) (joint_of r.before) r.links (add r.before m) rest))
         ≡ all
-        → Wanted toks fs (set stack s.depth (s.start * 4 + s.joined)) (begun_at (s.at + 1) s.out (s.depth + 1)) base all
+        → Wanted toks fs (set stack s.depth (s.start * 4 + code s.joined)) (begun_at (s.at + 1) s.out (s.depth + 1)) base all
     unfolding resumed Kept beneath
     open_reached k e room inside r enough same =
         let f : Frame = record { before = r.before; links = r.links } in
@@ -226,13 +227,13 @@ module _ (toks : Tokens) where
           kept = (
             record {
               word =
-                  ap (λ i. get_or (set stack s.depth (s.start * 4 + s.joined)) i 0) r.depth_of
-                  ∙ get_or-set_same stack s.depth (s.start * 4 + s.joined) 0 room
-                  ∙ ap₂ (λ p q. p * 4 + q) r.start_of r.word_of_law;
+                  ap (λ i. get_or (set stack s.depth (s.start * 4 + code s.joined)) i 0) r.depth_of
+                  ∙ get_or-set_same stack s.depth (s.start * 4 + code s.joined) 0 room
+                  ∙ ap₂ (λ p q. p * 4 + code q) r.start_of r.word_of_law;
               enough = omega (arith, r.enough_links);
             },
             kept_later toks.count s.at (s.at + 1) base _ r.frames (omega arith)
-                (kept_set toks.count s.at s.depth (s.start * 4 + s.joined) base stack r.frames (omega (arith, r.depth_of)) r.kept),
+                (kept_set toks.count s.at s.depth (s.start * 4 + code s.joined) base stack r.frames (omega (arith, r.depth_of)) r.kept),
           );
           fields = r.fields ∙ sym (append-nil (beneath base r.frames ++ fields_before r.before));
           start_of = sym (fields_length 0 s.out fs) ∙ ap length r.fields;
@@ -250,14 +251,14 @@ module _ (toks : Tokens) where
         }
 
     pub opened : opens_condition (ahead toks s.at) ≡ true → s.depth < length stack → Wanted toks fs stack s base all
-        → Wanted toks fs (set stack s.depth (s.start * 4 + s.joined)) (begun_at (s.at + 1) s.out (s.depth + 1)) base all
+        → Wanted toks fs (set stack s.depth (s.start * 4 + code s.joined)) (begun_at (s.at + 1) s.out (s.depth + 1)) base all
     opened e room r = go r.fuel r.enough r.same
       where
         go : (k : ℕ) → toks.count ≤ s.at + 1 + k
             → resumed k r.frames
             (next (member_by (condition_in k) (ahead toks s.at)) (λ m rest. go_on (condition_in k) (joint_of r.before) r.links (add r.before m) rest))
             ≡ all
-            → Wanted toks fs (set stack s.depth (s.start * 4 + s.joined)) (begun_at (s.at + 1) s.out (s.depth + 1)) base all
+            → Wanted toks fs (set stack s.depth (s.start * 4 + code s.joined)) (begun_at (s.at + 1) s.out (s.depth + 1)) base all
         go zero enough same = absurd (omega (arith, enough, opens_inside toks s.at e))
         go (suc k) enough same = open_reached k e room (opens_inside toks s.at e) r enough same
 
@@ -285,7 +286,7 @@ module _ (toks : Tokens) where
               ∙ ap (λ l. under ++ l) (sym (add_fields b m));
           start_of = r.start_of;
           word_of_law = r.word_of_law;
-          top_of_law = r.word_of_law ∙ ap code (sym (add_top b m ∙ plain_top (joint_of b) x.relation x.one x.other));
+          top_of_law = r.word_of_law ∙ (sym (add_top b m ∙ plain_top (joint_of b) x.relation x.one x.other));
           last_of_law =
               let size : s.out ≡ length (under ++ fields_before b) = sym (fields_length 0 s.out fs) ∙ ap length r.fields in
               let last : last_of (add b m) ≡ length (fields_before b) =
@@ -321,59 +322,57 @@ module _ (toks : Tokens) where
         ∙ r.same
 
     -- a word
-    word_reached : (j w t l : ℕ) (fs₁ : List ℕ) (v : Coded w) → word_behind s.joined (ahead toks s.at) ≡ w → s.at < toks.count
-        → fields_from 0 (s.out + 1) fs₁ ≡ insert_at (last_by w s) (Run (joining_of w) 0) (fields_from 0 s.out fs)
+    word_reached : (j : ℕ) (w : Joining) (t : Option Joining) (l : ℕ) (fs₁ : List ℕ) → word_behind s.joined (ahead toks s.at) ≡ Some w → s.at < toks.count
+        → fields_from 0 (s.out + 1) fs₁ ≡ insert_at (last_by (Some w) s) (Run w 0) (fields_from 0 s.out fs)
         → (r : Reached toks fs stack s base all) → toks.count < s.at + suc j
         → resumed r.fuel r.frames (go_on (condition_in r.fuel) r.joint (suc j) r.condition (ahead toks s.at)) ≡ all
         → Wanted toks fs₁ stack
-        (record { at = s.at + 1; out = s.out + 1; depth = s.depth; joined = w; start = s.start; top = t; last = l }) base all
-    word_reached j w t l fs₁ v e h g r enough same =
+        (record { at = s.at + 1; out = s.out + 1; depth = s.depth; joined = Some w; start = s.start; top = t; last = l }) base all
+    word_reached j w t l fs₁ e h g r enough same =
         let c = r.condition in
-        let u = v.joining in
         let under = beneath base r.frames in
         record {
           frames = r.frames;
           fuel = r.fuel;
           links = j;
-          before = behind u c;
+          before = behind w c;
           depth_of = r.depth_of;
           kept = kept_later toks.count s.at (s.at + 1) base stack r.frames (omega arith) r.kept;
           fields =
               g
-              ∙ ap₂ (λ p q. insert_at p (Run q 0) (fields_from 0 s.out fs))
-              (ap (λ k. last_by k s) v.number ∙ last_by_law s (length under) r.start_of (by u) c r.top_of_law r.last_of_law)
-              (ap joining_of v.number ∙ joining_again u)
-              ∙ ap (insert_at (length under + last_place (by u) c) (Run u 0)) r.fields
-              ∙ insert_behind under (condition_fields c) (last_place (by u) c) (Run u 0);
+              ∙ ap (λ p. insert_at p (Run w 0) (fields_from 0 s.out fs))
+              (last_by_law s (length under) r.start_of (Some w) c r.top_of_law r.last_of_law)
+              ∙ ap (insert_at (length under + last_place (Some w) c) (Run w 0)) r.fields
+              ∙ insert_behind under (condition_fields c) (last_place (Some w) c) (Run w 0);
           start_of = r.start_of;
-          word_of_law = v.number;
+          word_of_law = refl;
           enough = omega (arith, r.enough);
           enough_links = omega (arith, enough);
           same =
               ap (resumed r.fuel r.frames)
-              (ap (λ ts. next (member_by (condition_in r.fuel) ts) (λ m rest. go_on (condition_in r.fuel) (by u) j (add (behind u c) m) rest))
+              (ap (λ ts. next (member_by (condition_in r.fuel) ts) (λ m rest. go_on (condition_in r.fuel) (Some w) j (add (behind w c) m) rest))
               (ahead_behind toks s.at h)
-              ∙ sym (go_more (condition_in r.fuel) j c (ahead toks s.at) r.joint u
-              (ap (λ k. word_behind k (ahead toks s.at)) (sym r.word_of_law) ∙ e ∙ v.number)))
+              ∙ sym (go_more (condition_in r.fuel) j c (ahead toks s.at) r.joint w
+              (ap (λ k. word_behind k (ahead toks s.at)) (sym r.word_of_law) ∙ e)))
               ∙ same;
         }
 
-    pub word_turn : (w t l : ℕ) (fs₁ : List ℕ) → Coded w → word_behind s.joined (ahead toks s.at) ≡ w → s.at < toks.count
-        → fields_from 0 (s.out + 1) fs₁ ≡ insert_at (last_by w s) (Run (joining_of w) 0) (fields_from 0 s.out fs)
+    pub word_turn : (w : Joining) (t : Option Joining) (l : ℕ) (fs₁ : List ℕ) → word_behind s.joined (ahead toks s.at) ≡ Some w → s.at < toks.count
+        → fields_from 0 (s.out + 1) fs₁ ≡ insert_at (last_by (Some w) s) (Run w 0) (fields_from 0 s.out fs)
         → Reached toks fs stack s base all
         → Wanted toks fs₁ stack
-        (record { at = s.at + 1; out = s.out + 1; depth = s.depth; joined = w; start = s.start; top = t; last = l }) base all
-    word_turn w t l fs₁ v e h g r = go r.links r.enough_links r.same
+        (record { at = s.at + 1; out = s.out + 1; depth = s.depth; joined = Some w; start = s.start; top = t; last = l }) base all
+    word_turn w t l fs₁ e h g r = go r.links r.enough_links r.same
       where
         go : (j : ℕ) → toks.count < s.at + j
             → resumed r.fuel r.frames (go_on (condition_in r.fuel) r.joint j r.condition (ahead toks s.at)) ≡ all
             → Wanted toks fs₁ stack
-            (record { at = s.at + 1; out = s.out + 1; depth = s.depth; joined = w; start = s.start; top = t; last = l }) base all
+            (record { at = s.at + 1; out = s.out + 1; depth = s.depth; joined = Some w; start = s.start; top = t; last = l }) base all
         go zero enough same = absurd (omega (arith, enough, h))
-        go (suc j) enough same = word_reached j w t l fs₁ v e h g r enough same
+        go (suc j) enough same = word_reached j w t l fs₁ e h g r enough same
 
     -- no word: what was read of the innermost condition is all of it
-    word_stop : s.at ≤ toks.count → word_behind s.joined (ahead toks s.at) ≡ 0 → (r : Reached toks fs stack s base all)
+    word_stop : s.at ≤ toks.count → word_behind s.joined (ahead toks s.at) ≡ None → (r : Reached toks fs stack s base all)
         → resumed r.fuel r.frames (read r.condition (ahead toks s.at)) ≡ all
     word_stop h e r = go r.links r.enough_links r.same
       where
@@ -387,21 +386,21 @@ module _ (toks : Tokens) where
             (ap (λ k. word_behind k (ahead toks s.at)) (sym r.word_of_law) ∙ e)))
             ∙ same
 
-    pub word_end : s.at ≤ toks.count → word_behind s.joined (ahead toks s.at) ≡ 0 → s.depth ≡ 0 → Reached toks fs stack s base all
+    pub word_end : s.at ≤ toks.count → word_behind s.joined (ahead toks s.at) ≡ None → s.depth ≡ 0 → Reached toks fs stack s base all
         → read (fields_from 0 s.out fs) (ahead toks s.at) ≡ written condition_fields base all
     word_end h e d r =
         outermost r.fuel r.frames (r.depth_of ∙ d) base r.condition (fields_from 0 s.out fs) (ahead toks s.at) r.fields
         ∙ ap (written condition_fields base) (word_stop h e r)
 
-    pub unclosed : s.at ≤ toks.count → word_behind s.joined (ahead toks s.at) ≡ 0 → 0 < s.depth
+    pub unclosed : s.at ≤ toks.count → word_behind s.joined (ahead toks s.at) ≡ None → 0 < s.depth
         → opens mark_close (ahead toks s.at) ≡ false → Reached toks fs stack s base all → none ≡ all
     unclosed h e d o r = unclosed_all r.fuel r.frames (omega (arith, d, r.depth_of)) _ _ o ∙ word_stop h e r
 
     -- behind a closing bracket what was read is a member of the condition round it
-    popped : (f : Frame) (gs : List Frame) (k p q : ℕ) (c : Condition) → s.at < toks.count → length (f ∷ gs) ≡ s.depth
-        → opens mark_close (ahead toks s.at) ≡ true → q ≡ code (joint_of f.before) → p ≡ length (beneath base gs)
+    popped : (f : Frame) (gs : List Frame) (k p : ℕ) (q : Option Joining) (c : Condition) → s.at < toks.count → length (f ∷ gs) ≡ s.depth
+        → opens mark_close (ahead toks s.at) ≡ true → q ≡ joint_of f.before → p ≡ length (beneath base gs)
         → Kept toks.count s.at base stack (f ∷ gs) → fields_from 0 s.out fs ≡ beneath base (f ∷ gs) ++ condition_fields c
-        → s.start ≡ length (beneath base (f ∷ gs)) → s.top ≡ code (top_of c) → s.last ≡ length (beneath base (f ∷ gs)) + last_of c
+        → s.start ≡ length (beneath base (f ∷ gs)) → s.top ≡ top_of c → s.last ≡ length (beneath base (f ∷ gs)) + last_of c
         → toks.count ≤ s.at + 1 + k → resumed k (f ∷ gs) (read c (ahead toks s.at)) ≡ all
         → Reached toks fs stack
         (record { at = s.at + 1; out = s.out; depth = s.depth - 1; joined = q; start = p; top = top_by q s; last = last_by q s }) base all
@@ -422,7 +421,7 @@ module _ (toks : Tokens) where
               fields ∙ append_assoc under (fields_before b) (condition_fields c) ∙ ap (λ l. under ++ l) (sym (add_fields b c));
           start_of = start;
           word_of_law = word;
-          top_of_law = ap (λ i. top_by i s) word ∙ top_by_law s place start_of (joint_of b) c top_of_law ∙ ap code (sym (add_top b c));
+          top_of_law = ap (λ i. top_by i s) word ∙ top_by_law s place start_of (joint_of b) c top_of_law ∙ sym (add_top b c);
           last_of_law =
               let last : last_by q s ≡ place + last_place (joint_of b) c =
               ap (λ i. last_by i s) word ∙ last_by_law s place start_of (joint_of b) c top_of_law last_of_law in
@@ -433,7 +432,7 @@ module _ (toks : Tokens) where
           same = rw (ahead_behind toks s.at h) (rw o at same);
         }
 
-    pub closed : (w : ℕ) → s.at < toks.count → word_behind s.joined (ahead toks s.at) ≡ 0 → 0 < s.depth
+    pub closed : (w : ℕ) → s.at < toks.count → word_behind s.joined (ahead toks s.at) ≡ None → 0 < s.depth
         → opens mark_close (ahead toks s.at) ≡ true → get_or stack (s.depth - 1) 0 ≡ w
         → Reached toks fs stack s base all
         → Reached toks fs stack (outward_from s w) base all
@@ -450,8 +449,8 @@ module _ (toks : Tokens) where
             let place : s.depth - 1 ≡ length gs = omega (arith, size) in
             let word = sym held ∙ ap (λ i. get_or stack i 0) place ∙ kept.0.word in
             let small = code_few (joint_of f.before) in
-            popped f gs r.fuel (w / 4) (w % 4) r.condition h size o
-            (ap (λ i. i % 4) word ∙ joined_again (length (beneath base gs)) (code (joint_of f.before)) small)
+            popped f gs r.fuel (w / 4) (joining_of (w % 4)) r.condition h size o
+            (ap joining_of (ap (λ i. i % 4) word ∙ joined_again (length (beneath base gs)) (code (joint_of f.before)) small) ∙ joining_again (joint_of f.before))
             (ap (λ i. i / 4) word ∙ start_again (length (beneath base gs)) (code (joint_of f.before)) small)
             kept fields start r.top_of_law last r.enough same
 
@@ -467,9 +466,6 @@ module _ (toks : Tokens) where
         let size = sym (fields_length 0 s.out fs) ∙ ap length r.fields ∙ length-append (beneath base r.frames) (condition_fields r.condition) in
         omega (arith, size, r.last_of_law, last_within r.condition)
 
-    pub reached_word : Reached toks fs stack s base all → s.joined ≤ 2
-    reached_word r = rw r.word_of_law (code_few r.joint)
-
 -- what was read from a later place on
 pub onward_later : (n : ℕ) (s t : Reading) (r : Option Reading) → s.at ≤ t.at → s.out ≤ t.out
     → t.depth + t.out + s.at ≤ t.at + s.depth + s.out → Onward n t r → Onward n s r
@@ -483,6 +479,5 @@ pub record Opening (toks : Tokens) (stack₀ : List ℕ) (s : Reading) (stack : 
   pub written : t.out ≡ s.out
   pub few : t.depth + s.at ≡ t.at + s.depth
   pub begins : t.start ≤ t.out
-  pub words : t.joined ≤ 2
   pub deep : length stack ≡ length stack₀
   pub to_come : (fs : List ℕ) (base : List Field) (all : Read Condition) → Wanted toks fs stack₀ s base all → Wanted toks fs stack t base all

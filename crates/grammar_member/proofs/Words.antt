@@ -6,8 +6,9 @@ use mathlib.Core.List.{List, [], ◌∷◌}
 use native.Mathlib.Omega.{arith}
 use lib.Dec.{eqb}
 use borrow.Author.Tests.{eqb-true}
+use Rattle.std.specs.Prelude.{Option, Some, None}
 use Rattle.base.specs.Choice.{pick}
-use Rattle.base.proofs.Cases.{by_less, by_equal, either_part}
+use Rattle.base.proofs.Cases.{by_less, either_part}
 use Rattle.sheet.specs.declared.Joining.{Joining}
 use Rattle.sheet.specs.declared.Joining.TheVariants.{And, Or}
 use Rattle.sheet.specs.Sheet.{Condition, compares, joins}
@@ -20,45 +21,30 @@ use Rattle.grammar_look.specs.declared.Tokens.{Tokens}
 use Rattle.grammar_look.specs.Internal.{ahead}
 use Rattle.grammar_look.proofs.Places.{ahead_none}
 use Rattle.grammar_member.specs.declared.Reading.{Reading}
-use Rattle.grammar_member.specs.Internal.{Joint, free, by, code, joining_of, agreed_word, word_behind, go_on, top_of, last_of, last_place, top_by, last_by}
+use Rattle.grammar_member.specs.Internal.{code, joining_of, agreed_word, word_behind, go_on, top_of, last_of, last_place, top_by, last_by}
 use Rattle.grammar_member.proofs.Runs.{join_top}
 
 -- ---- numbers
 
-agreed_few : (j w : ℕ) → w ≤ 2 → agreed_word j w ≤ 2
-agreed_few j w h = either_part (λ v. v ≤ 2) _ _ _ (λ e. h) (λ e. either_part (λ v. v ≤ 2) _ _ _ (λ f. h) (λ f. omega arith))
-
-pub word_few : (j : ℕ) (ts : List Token) → word_behind j ts ≤ 2
-unfolding word_behind
-word_few j ts =
-    either_part (λ v. v ≤ 2) _ _ _ (λ e. agreed_few j 1 (omega arith))
-    (λ e. either_part (λ v. v ≤ 2) _ _ _ (λ f. agreed_few j 2 (omega arith)) (λ f. omega arith))
-
 -- a word stands before the end
-pub word_inside : (toks : Tokens) (at j : ℕ) → (word_behind j (ahead toks at) ≡ 0 → ⊥) → at < toks.count
+pub word_inside : (toks : Tokens) (at : ℕ) (j : Option Joining) (w : Joining) → word_behind j (ahead toks at) ≡ Some w → at < toks.count
 unfolding word_behind opens pick
-word_inside toks at j e = by_less at toks.count (λ h. h) (λ h. absurd (e (rw (ahead_none toks at h) refl)))
+word_inside toks at j w e =
+    by_less at toks.count (λ h. h)
+    (λ h. let none : word_behind j (ahead toks at) ≡ None = rw (ahead_none toks at h) refl in
+    let z : ◌≡◌ {A = ℕ} 0 1 = cc in
+    absurd (omega arith))
 
--- the word that a number stands for
-pub record Coded (w : ℕ) : Type 0 where
-  pub joining : Joining
-  pub number : w ≡ code (by joining)
+pub code_few : (b : Option Joining) → code b ≤ 2
+code_few None = omega arith
+code_few (Some And) = omega arith
+code_few (Some Or) = omega arith
 
-pub coded : (w : ℕ) → 0 < w → w ≤ 2 → Coded w
-coded w e h =
-    by_equal w 1
-    (λ f. record { joining = And; number = f })
-    (λ f. record { joining = Or; number = omega (arith, e, f, h) })
-
-pub joining_again : (v : Joining) → joining_of (code (by v)) ≡ v
+pub joining_again : (b : Option Joining) → joining_of (code b) ≡ b
 unfolding pick
-joining_again And = refl
-joining_again Or = refl
-
-pub code_few : (b : Joint) → code b ≤ 2
-code_few free = omega arith
-code_few (by And) = omega arith
-code_few (by Or) = omega arith
+joining_again None = refl
+joining_again (Some And) = refl
+joining_again (Some Or) = refl
 
 -- ---- among the tokens
 
@@ -77,66 +63,63 @@ module _ (inner : List Token → Read Condition) (k : ℕ) (c : Condition) (ts :
   More v = next (member_by inner (behind_first ts)) (λ m rest. run_by inner v k (join_of v c m) rest)
 
   -- another member is to come
-  pub go_more : (b : Joint) (v : Joining) → word_behind (code b) ts ≡ code (by v) → go_on inner b (suc k) c ts ≡ More v
+  pub go_more : (b : Option Joining) (v : Joining) → word_behind b ts ≡ Some v → go_on inner b (suc k) c ts ≡ More v
   unfolding word_behind run_by pick
   go_more b v h = go b v (opens mark_and ts) (opens mark_or ts) refl refl h
     where
-      go : (b : Joint) (v : Joining) (s t : Bool) → opens mark_and ts ≡ s → opens mark_or ts ≡ t
-          → pick s (agreed_word (code b) 1) (pick t (agreed_word (code b) 2) 0) ≡ code (by v) → go_on inner b (suc k) c ts ≡ More v
-      go free And true t e f g = rw e refl
-      go free And false true e f g = absurd (omega (arith, g))
-      go free And false false e f g = absurd (omega (arith, g))
-      go free Or true t e f g = absurd (omega (arith, g))
-      go free Or false true e f g = rw (e, f) refl
-      go free Or false false e f g = absurd (omega (arith, g))
-      go (by And) And true t e f g = rw e refl
-      go (by And) And false true e f g = absurd (omega (arith, g))
-      go (by And) And false false e f g = absurd (omega (arith, g))
-      go (by And) Or true t e f g = absurd (omega (arith, g))
-      go (by And) Or false true e f g = absurd (omega (arith, g))
-      go (by And) Or false false e f g = absurd (omega (arith, g))
-      go (by Or) And true t e f g = absurd (omega (arith, g))
-      go (by Or) And false true e f g = absurd (omega (arith, g))
-      go (by Or) And false false e f g = absurd (omega (arith, g))
-      go (by Or) Or true t e f g = absurd (omega (arith, g))
-      go (by Or) Or false true e f g = rw f refl
-      go (by Or) Or false false e f g = absurd (omega (arith, g))
+      go : (b : Option Joining) (v : Joining) (s t : Bool) → opens mark_and ts ≡ s → opens mark_or ts ≡ t
+          → pick s (agreed_word b And) (pick t (agreed_word b Or) None) ≡ Some v → go_on inner b (suc k) c ts ≡ More v
+      go None And true t e f g = rw e refl
+      go None And false true e f g = let z : ◌≡◌ {A = ℕ} 0 1 = cc in absurd (omega arith)
+      go None And false false e f g = let z : ◌≡◌ {A = ℕ} 0 1 = cc in absurd (omega arith)
+      go None Or true t e f g = let z : ◌≡◌ {A = ℕ} 0 1 = cc in absurd (omega arith)
+      go None Or false true e f g = rw (e, f) refl
+      go None Or false false e f g = let z : ◌≡◌ {A = ℕ} 0 1 = cc in absurd (omega arith)
+      go (Some And) And true t e f g = rw e refl
+      go (Some And) And false true e f g = let z : ◌≡◌ {A = ℕ} 0 1 = cc in absurd (omega arith)
+      go (Some And) And false false e f g = let z : ◌≡◌ {A = ℕ} 0 1 = cc in absurd (omega arith)
+      go (Some And) Or true t e f g = let z : ◌≡◌ {A = ℕ} 0 1 = cc in absurd (omega arith)
+      go (Some And) Or false true e f g = let z : ◌≡◌ {A = ℕ} 0 1 = cc in absurd (omega arith)
+      go (Some And) Or false false e f g = let z : ◌≡◌ {A = ℕ} 0 1 = cc in absurd (omega arith)
+      go (Some Or) And true t e f g = let z : ◌≡◌ {A = ℕ} 0 1 = cc in absurd (omega arith)
+      go (Some Or) And false true e f g = let z : ◌≡◌ {A = ℕ} 0 1 = cc in absurd (omega arith)
+      go (Some Or) And false false e f g = let z : ◌≡◌ {A = ℕ} 0 1 = cc in absurd (omega arith)
+      go (Some Or) Or true t e f g = let z : ◌≡◌ {A = ℕ} 0 1 = cc in absurd (omega arith)
+      go (Some Or) Or false true e f g = rw f refl
+      go (Some Or) Or false false e f g = let z : ◌≡◌ {A = ℕ} 0 1 = cc in absurd (omega arith)
 
   -- no word goes on
-  pub go_stop : (b : Joint) → word_behind (code b) ts ≡ 0 → go_on inner b (suc k) c ts ≡ read c ts
+  pub go_stop : (b : Option Joining) → word_behind b ts ≡ None → go_on inner b (suc k) c ts ≡ read c ts
   unfolding word_behind run_by pick
   go_stop b h = go b (opens mark_and ts) (opens mark_or ts) refl refl h
     where
-      go : (b : Joint) (s t : Bool) → opens mark_and ts ≡ s → opens mark_or ts ≡ t
-          → pick s (agreed_word (code b) 1) (pick t (agreed_word (code b) 2) 0) ≡ 0 → go_on inner b (suc k) c ts ≡ read c ts
-      go free true t e f g = absurd (omega (arith, g))
-      go free false true e f g = absurd (omega (arith, g))
-      go free false false e f g = rw (e, f) refl
-      go (by And) true t e f g = absurd (omega (arith, g))
-      go (by And) false t e f g = rw e refl
-      go (by Or) true t e f g = rw (and_not_or ts e) refl
-      go (by Or) false true e f g = absurd (omega (arith, g))
-      go (by Or) false false e f g = rw f refl
+      go : (b : Option Joining) (s t : Bool) → opens mark_and ts ≡ s → opens mark_or ts ≡ t
+          → pick s (agreed_word b And) (pick t (agreed_word b Or) None) ≡ None → go_on inner b (suc k) c ts ≡ read c ts
+      go None true t e f g = let z : ◌≡◌ {A = ℕ} 0 1 = cc in absurd (omega arith)
+      go None false true e f g = let z : ◌≡◌ {A = ℕ} 0 1 = cc in absurd (omega arith)
+      go None false false e f g = rw (e, f) refl
+      go (Some And) true t e f g = let z : ◌≡◌ {A = ℕ} 0 1 = cc in absurd (omega arith)
+      go (Some And) false t e f g = rw e refl
+      go (Some Or) true t e f g = rw (and_not_or ts e) refl
+      go (Some Or) false true e f g = let z : ◌≡◌ {A = ℕ} 0 1 = cc in absurd (omega arith)
+      go (Some Or) false false e f g = rw f refl
 
 -- ---- a condition as a member of another
 
-pub last_by_within : (w : ℕ) (s : Reading) → s.start ≤ s.out → s.last ≤ s.out → last_by w s ≤ s.out
-last_by_within w s h g =
-    either_part (λ k. k ≤ s.out) _ _ _ (λ e. g) (λ e. either_part (λ k. k ≤ s.out) _ _ _ (λ f. g) (λ f. h))
+pub last_by_within : (w : Option Joining) (s : Reading) → s.start ≤ s.out → s.last ≤ s.out → last_by w s ≤ s.out
+last_by_within None s h g = g
+last_by_within (Some w) s h g = either_part (λ k. k ≤ s.out) _ _ _ (λ e. g) (λ e. h)
 
 module _ (s : Reading) (p : ℕ) (first : s.start ≡ p) where
-  pub top_by_law : (b : Joint) (c : Condition) → s.top ≡ code (top_of c) → top_by (code b) s ≡ code (join_top b c)
-  unfolding pick
-  top_by_law free c e = e
-  top_by_law (by And) c e = refl
-  top_by_law (by Or) c e = refl
+  pub top_by_law : (b : Option Joining) (c : Condition) → s.top ≡ top_of c → top_by b s ≡ join_top b c
+  top_by_law None c e = e
+  top_by_law (Some w) c e = refl
 
-  pub last_by_law : (b : Joint) (c : Condition) → s.top ≡ code (top_of c) → s.last ≡ p + last_of c → last_by (code b) s ≡ p + last_place b c
+  pub last_by_law : (b : Option Joining) (c : Condition) → s.top ≡ top_of c → s.last ≡ p + last_of c → last_by b s ≡ p + last_place b c
   unfolding pick
-  last_by_law free c e l = l
-  last_by_law (by And) (compares r x y) e l = rw e (omega (arith, first))
-  last_by_law (by Or) (compares r x y) e l = rw e (omega (arith, first))
-  last_by_law (by And) (joins And x y) e l = rw e l
-  last_by_law (by And) (joins Or x y) e l = rw e (omega (arith, first))
-  last_by_law (by Or) (joins And x y) e l = rw e (omega (arith, first))
-  last_by_law (by Or) (joins Or x y) e l = rw e l
+  last_by_law None c e l = l
+  last_by_law (Some w) (compares r x y) e l = rw e (omega (arith, first))
+  last_by_law (Some And) (joins And x y) e l = rw e l
+  last_by_law (Some And) (joins Or x y) e l = rw e (omega (arith, first))
+  last_by_law (Some Or) (joins And x y) e l = rw e (omega (arith, first))
+  last_by_law (Some Or) (joins Or x y) e l = rw e l

@@ -1,12 +1,12 @@
 -- What the functions that read the members of a condition do. A reader of the promises needs none of it.
-use Rattle.std.specs.Prelude.{ℕ, suc, ◌+◌, ◌-◌, ◌*◌, ◌/◌, ◌%◌, ◌<◌, ◌≤◌, ◌≡◌, false, Option, Some, None, IfSome, List, [], ◌∷◌, ◌++◌, eqb, length, get_or}
+use Rattle.std.specs.Prelude.{ℕ, suc, ◌+◌, ◌-◌, ◌*◌, ◌/◌, ◌%◌, ◌<◌, ◌≤◌, ◌≡◌, Bool, false, Option, Some, None, IfSome, List, [], ◌∷◌, ◌++◌, eqb, length, get_or}
 use Rattle.base.specs.Choice.{pick}
 use Rattle.sheet.specs.declared.Joining.{Joining}
 use Rattle.sheet.specs.declared.Joining.TheVariants.{And, Or}
 use Rattle.sheet.specs.declared.Field.{Field}
 use Rattle.sheet.specs.declared.Field.TheVariants.{Run}
 use Rattle.sheet.specs.Sheet.{Condition, compares, joins}
-use Rattle.sheet.specs.Condition.{is_run}
+use Rattle.sheet.specs.Condition.{same_word, is_run}
 use Rattle.sheet.specs.Merge.{join_of}
 use Rattle.sheet.specs.Memory.{condition_fields}
 use Rattle.sheet_field.specs.Memory.{fields_from}
@@ -21,39 +21,41 @@ use Rattle.grammar_member.specs.declared.Reading.{Reading}
 
 -- ---- words
 
--- a word that joins members, or none
-pub data Joint : Type 0 where
-  free : Joint
-  by : Joining → Joint
+-- a word that joins members, or none, as a number of the stack
+abbrev pub code : Option Joining → ℕ
+code None = 0
+code (Some And) = 1
+code (Some Or) = 2
 
-abbrev pub code : Joint → ℕ
-code free = 0
-code (by And) = 1
-code (by Or) = 2
+-- the word that such a number stands for
+abbrev pub joining_of : ℕ → Option Joining
+joining_of q = pick (eqb q 0) None (pick (eqb q 1) (Some And) (Some Or))
 
--- the word that a number stands for
-abbrev pub joining_of : ℕ → Joining
-joining_of w = pick (eqb w 1) And Or
+-- whether a condition of which `top` is the word is a run of w
+abbrev pub is_run_by : Joining → Option Joining → Bool
+is_run_by w None = false
+is_run_by w (Some u) = same_word w u
 
--- the word w, if it may stand behind members that the word j joins; else 0
-abbrev pub agreed_word : ℕ → ℕ → ℕ
-agreed_word j w = pick (eqb j 0) w (pick (eqb j w) w 0)
+-- the word w, if it may stand behind members that another joins
+abbrev pub agreed_word : Option Joining → Joining → Option Joining
+agreed_word None w = Some w
+agreed_word (Some v) w = pick (same_word v w) (Some w) None
 
--- the word at the front, as a number, that joins another member to those that j joins
-unfoldable pub word_behind : ℕ → List Token → ℕ
-word_behind j ts = pick (opens mark_and ts) (agreed_word j 1) (pick (opens mark_or ts) (agreed_word j 2) 0)
+-- the word at the front that joins another member to those that j joins
+unfoldable pub word_behind : Option Joining → List Token → Option Joining
+word_behind j ts = pick (opens mark_and ts) (agreed_word j And) (pick (opens mark_or ts) (agreed_word j Or) None)
 
 -- the members behind those of c, at most k
-abbrev pub go_on : (List Token → Read Condition) → Joint → ℕ → Condition → List Token → Read Condition
-go_on inner free k c ts = joined_by inner k c ts
-go_on inner (by w) k c ts = run_by inner w k c ts
+abbrev pub go_on : (List Token → Read Condition) → Option Joining → ℕ → Condition → List Token → Read Condition
+go_on inner None k c ts = joined_by inner k c ts
+go_on inner (Some w) k c ts = run_by inner w k c ts
 
 -- ---- runs and their fields
 
 -- the word of which a condition is a run
-abbrev pub top_of : Condition → Joint
-top_of (compares r a b) = free
-top_of (joins w a b) = by w
+abbrev pub top_of : Condition → Option Joining
+top_of (compares r a b) = None
+top_of (joins w a b) = Some w
 
 -- where the last member of a run begins among its fields
 unfoldable pub last_of : Condition → ℕ
@@ -62,18 +64,18 @@ last_of (joins w a b) = length (Run w 0 ∷ condition_fields a) + pick (is_run w
 
 -- where the last member of a run begins, among the fields of a condition with which the run ends: that is one of its members, or
 -- a run of the same word with its last members
-abbrev pub last_place : Joint → Condition → ℕ
-last_place free c = last_of c
-last_place (by w) c = pick (is_run w c) (last_of c) 0
+abbrev pub last_place : Option Joining → Condition → ℕ
+last_place None c = last_of c
+last_place (Some w) c = pick (is_run w c) (last_of c) 0
 
 -- what stands before a member in its condition: nothing, or the members so far and the word that joins it to them
 pub data Before : Type 0 where
   first : Before
   behind : Joining → Condition → Before
 
-abbrev pub joint_of : Before → Joint
-joint_of first = free
-joint_of (behind w c) = by w
+abbrev pub joint_of : Before → Option Joining
+joint_of first = None
+joint_of (behind w c) = Some w
 
 abbrev pub add : Before → Condition → Condition
 add first m = m
@@ -81,7 +83,7 @@ add (behind w c) m = join_of w c m
 
 abbrev pub fields_before : Before → List Field
 fields_before first = []
-fields_before (behind w c) = insert_at (last_place (by w) c) (Run w 0) (condition_fields c)
+fields_before (behind w c) = insert_at (last_place (Some w) c) (Run w 0) (condition_fields c)
 
 -- ---- open brackets
 
@@ -117,15 +119,17 @@ Kept n a base ws (f ∷ fs) = Held n a (length (beneath base fs)) (get_or ws (le
 
 -- before the first member of a condition
 abbrev pub begun_at : ℕ → ℕ → ℕ → Reading
-begun_at at out d = record { at = at; out = out; depth = d; joined = 0; start = out; top = 0; last = out }
+begun_at at out d = record { at = at; out = out; depth = d; joined = None; start = out; top = None; last = out }
 
 -- the condition of which what is read is a member behind the word w: the word of which it is a run, and where its last member
 -- begins
-abbrev pub top_by : ℕ → Reading → ℕ
-top_by w s = pick (eqb w 0) s.top w
+abbrev pub top_by : Option Joining → Reading → Option Joining
+top_by None s = s.top
+top_by (Some w) s = Some w
 
-abbrev pub last_by : ℕ → Reading → ℕ
-last_by w s = pick (eqb w 0) s.last (pick (eqb w s.top) s.last s.start)
+abbrev pub last_by : Option Joining → Reading → ℕ
+last_by None s = s.last
+last_by (Some w) s = pick (is_run_by w s.top) s.last s.start
 
 -- behind a closing bracket: what is read is a member of the condition round it, which the word w of the stack holds
 abbrev pub outward_from : Reading → ℕ → Reading
@@ -134,10 +138,10 @@ outward_from s w =
       at = s.at + 1;
       out = s.out;
       depth = s.depth - 1;
-      joined = w % 4;
+      joined = joining_of (w % 4);
       start = w / 4;
-      top = top_by (w % 4) s;
-      last = last_by (w % 4) s;
+      top = top_by (joining_of (w % 4)) s;
+      last = last_by (joining_of (w % 4)) s;
     }
 
 -- there is room for the brackets that a reading may open
@@ -147,7 +151,6 @@ pub record Deep (n : ℕ) (stack : List ℕ) (s : Reading) : Type 0 where
   pub few : s.depth + s.out ≤ s.at
   pub deep : most_cells ≤ length stack
   pub begins : s.start ≤ s.out
-  pub words : s.joined ≤ 2
 
 -- and for the fields that it may write
 pub record Inside (n : ℕ) (fs stack : List ℕ) (s : Reading) : Type 0 where
@@ -169,7 +172,7 @@ pub record Wanted (toks : Tokens) (fs stack : List ℕ) (s : Reading) (base : Li
   pub kept : Kept toks.count s.at base stack frames
   pub fields : fields_from 0 s.out fs ≡ beneath base frames ++ fields_before before
   pub start_of : s.start ≡ length (beneath base frames)
-  pub word_of_law : s.joined ≡ code (joint_of before)
+  pub word_of_law : s.joined ≡ joint_of before
   pub enough : toks.count ≤ s.at + 1 + fuel
   pub enough_links : toks.count ≤ s.at + links
   pub same :
@@ -182,14 +185,14 @@ pub record Reached (toks : Tokens) (fs stack : List ℕ) (s : Reading) (base : L
   pub frames : List Frame
   pub fuel : ℕ
   pub links : ℕ
-  pub joint : Joint
+  pub joint : Option Joining
   pub condition : Condition
   pub depth_of : length frames ≡ s.depth
   pub kept : Kept toks.count s.at base stack frames
   pub fields : fields_from 0 s.out fs ≡ beneath base frames ++ condition_fields condition
   pub start_of : s.start ≡ length (beneath base frames)
-  pub word_of_law : s.joined ≡ code joint
-  pub top_of_law : s.top ≡ code (top_of condition)
+  pub word_of_law : s.joined ≡ joint
+  pub top_of_law : s.top ≡ top_of condition
   pub last_of_law : s.last ≡ length (beneath base frames) + last_of condition
   pub enough : toks.count ≤ s.at + 1 + fuel
   pub enough_links : toks.count < s.at + links
@@ -214,12 +217,12 @@ abbrev pub Adds : Tokens → Reading → List ℕ → List ℕ → Option Readin
 Adds toks s fs stack r fs₁ stack₁ =
     (base : List Field) (all : Read Condition) → Wanted toks fs stack s base all → Arrived toks fs₁ stack₁ r base all
 
-abbrev pub Joins : ℕ → Tokens → Reading → List ℕ → List ℕ → Option Reading → List ℕ → List ℕ → Type 0
+abbrev pub Joins : Joining → Tokens → Reading → List ℕ → List ℕ → Option Reading → List ℕ → List ℕ → Type 0
 Joins w toks s fs stack r fs₁ stack₁ =
-    (base : List Field) (all : Read Condition) → word_behind s.joined (ahead toks s.at) ≡ w → Reached toks fs stack s base all
+    (base : List Field) (all : Read Condition) → word_behind s.joined (ahead toks s.at) ≡ Some w → Reached toks fs stack s base all
     → Arrived toks fs₁ stack₁ r base all
 
 abbrev pub Closes : Tokens → Reading → List ℕ → Option Reading → Type 0
 Closes toks s stack r =
-    (fs : List ℕ) (base : List Field) (all : Read Condition) → word_behind s.joined (ahead toks s.at) ≡ 0
+    (fs : List ℕ) (base : List Field) (all : Read Condition) → word_behind s.joined (ahead toks s.at) ≡ None
     → Reached toks fs stack s base all → Arrived toks fs stack r base all

@@ -5,9 +5,10 @@
 #![tactic(auto)]
 
 ghost use Rattle.std.specs.Prelude.{◌≡◌, ◌<◌, ◌≤◌, length};
+ghost use Rattle.sheet.specs.Condition.{same_word};
 ghost use Rattle.source.specs.Limits.{most_cells};
 ghost use Rattle.grammar_look.specs.Internal.{ahead};
-ghost use Rattle.grammar_member.specs.Internal.{begun_at, agreed_word, word_behind, joining_of, top_by, last_by, outward_from};
+ghost use Rattle.grammar_member.specs.Internal.{begun_at, code, joining_of, agreed_word, word_behind, is_run_by, top_by, last_by, outward_from};
 ghost use Rattle.grammar_member.specs.Internal.{Deep, Opens, Inside, Onward, Adds, Joins, Closes};
 
 use grammar_comparison::{comparison, opens_condition};
@@ -15,11 +16,6 @@ use grammar_look::Tokens;
 use grammar_output::insert;
 use sheet::{Field, Joining};
 use source::marks::{MARK_AND, MARK_CLOSE, MARK_OR};
-
-// The words that join members, as numbers; 0 where none does.
-const WORD_AND: u32 = 1;
-
-const WORD_OR: u32 = 2;
 
 // How far a condition is read: the next token, the next field, how many brackets are open; then of the innermost condition the
 // word that joins its members, where its fields begin, the word of which it is a run, and where its last member begins. The last
@@ -29,9 +25,9 @@ pub struct Reading {
     pub at: usize,
     pub out: usize,
     pub depth: usize,
-    pub joined: u32,
+    pub joined: Option<Joining>,
     pub start: usize,
-    pub top: u32,
+    pub top: Option<Joining>,
     pub last: usize,
 }
 
@@ -43,10 +39,33 @@ pub fn begun(at: usize, out: usize, depth: usize) -> Reading
         at,
         out,
         depth,
-        joined: 0,
+        joined: None,
         start: out,
-        top: 0,
+        top: None,
         last: out,
+    }
+}
+
+// The number by which the stack holds a word that joins members, or that none does.
+fn code_of(joined: Option<Joining>) -> u32
+    ensures coded { result ≡ code joined }
+    ensures few { result ≤ 2 }
+{
+    match joined {
+        None => 0,
+        Some(Joining::And) => 1,
+        Some(Joining::Or) => 2,
+    }
+}
+
+// And back.
+fn joining_of(q: u32) -> Option<Joining>
+    ensures { result ≡ joining_of q }
+{
+    match q {
+        0 => None,
+        1 => Some(Joining::And),
+        _ => Some(Joining::Or),
     }
 }
 
@@ -57,7 +76,7 @@ fn brackets(tokens: &Tokens<'_>, stack: &mut [u32], s: Reading) -> Reading
 {
     let mut t = s;
     while opens_condition(tokens, t.at) {
-        stack[t.depth] = t.start as u32 * 4 + t.joined;
+        stack[t.depth] = t.start as u32 * 4 + code_of(t.joined);
         t = begun(t.at + 1, t.out, t.depth + 1);
     }
     t
@@ -86,64 +105,64 @@ pub fn member(
     })
 }
 
-// "Mixing the two without brackets is refusal 7": the word w, if it may stand behind members that the word `joined` joins; else 0.
-fn agreed(joined: u32, w: u32) -> u32
-    ensures { result ≡ agreed_word joined w }
+fn same_word(v: Joining, w: Joining) -> bool
+    ensures { result ≡ same_word v w }
 {
-    if joined == 0 {
-        return w;
-    }
-    if joined == w {
-        return w;
-    }
-    0
+    matches!(
+        (v, w),
+        (Joining::And, Joining::And) | (Joining::Or, Joining::Or)
+    )
 }
 
-// The word at a place that joins another member to those that the word `joined` joins; 0 where there is none.
-pub fn word_behind(tokens: &Tokens<'_>, at: usize, joined: u32) -> u32
+// "Mixing the two without brackets is refusal 7": the word w, if it may stand behind members that another joins.
+fn agreed(joined: Option<Joining>, w: Joining) -> Option<Joining>
+    ensures { result ≡ agreed_word joined w }
+{
+    match joined {
+        Some(v) if !same_word(v, w) => None,
+        _ => Some(w),
+    }
+}
+
+// The word at a place that joins another member to those that the word `joined` joins.
+pub fn word_behind(tokens: &Tokens<'_>, at: usize, joined: Option<Joining>) -> Option<Joining>
     ensures { result ≡ word_behind joined (ahead tokens.now at) }
 {
     if tokens.mark_at(at, MARK_AND) {
-        return agreed(joined, WORD_AND);
+        return agreed(joined, Joining::And);
     }
     if tokens.mark_at(at, MARK_OR) {
-        return agreed(joined, WORD_OR);
+        return agreed(joined, Joining::Or);
     }
-    0
-}
-
-// The word that a number stands for.
-fn joining_of(w: u32) -> Joining
-    ensures { result ≡ joining_of w }
-{
-    if w == WORD_AND {
-        return Joining::And;
-    }
-    Joining::Or
+    None
 }
 
 // The word of which a condition is a run, where the one that is read is the last member of it, behind the word w.
-fn top_by(w: u32, s: Reading) -> u32
+fn top_by(w: Option<Joining>, s: Reading) -> Option<Joining>
     ensures { result ≡ top_by w s }
 {
-    if w == 0 {
-        return s.top;
+    w.or(s.top)
+}
+
+// Whether a condition of which `top` is the word is a run of w.
+fn is_run_by(w: Joining, top: Option<Joining>) -> bool
+    ensures { result ≡ is_run_by w top }
+{
+    match top {
+        Some(u) => same_word(w, u),
+        None => false,
     }
-    w
 }
 
 // Where the last member of that condition begins. "A sheet, by its definition, merges nested runs of the same joining word": it is
 // that of the one that is read, if this is a run of w; else it is the one that is read.
-fn last_by(w: u32, s: Reading) -> usize
+fn last_by(w: Option<Joining>, s: Reading) -> usize
     ensures { result ≡ last_by w s }
 {
-    if w == 0 {
-        return s.last;
+    match w {
+        Some(w) if !is_run_by(w, s.top) => s.start,
+        _ => s.last,
     }
-    if w == s.top {
-        return s.last;
-    }
-    s.start
 }
 
 // A word behind a member, and the member behind it.
@@ -152,19 +171,19 @@ pub fn joined(
     fields: &mut [u64],
     stack: &mut [u32],
     s: Reading,
-    w: u32,
+    w: Joining,
 ) -> Option<Reading>
-    requires { Inside tokens.now.count fields.old stack.old s × (s.at < tokens.now.count) × (0 < w) × (w ≤ 2) }
+    requires { Inside tokens.now.count fields.old stack.old s × (s.at < tokens.now.count) }
     ensures moved { Onward tokens.now.count s result }
     ensures read { Joins w tokens.now s fields.old stack.old
         result fields.new stack.new }
 {
-    insert(fields, last_by(w, s), s.out, Field::Run(joining_of(w), 0));
+    insert(fields, last_by(Some(w), s), s.out, Field::Run(w, 0));
     let after = Reading {
         at: s.at + 1,
         out: s.out + 1,
-        joined: w,
-        top: w,
+        joined: Some(w),
+        top: Some(w),
         last: s.start,
         ..s
     };
@@ -176,14 +195,15 @@ fn outward(s: Reading, w: u32) -> Reading
     requires { (0 < s.depth) × (s.at < most_cells) }
     ensures { result ≡ outward_from s w }
 {
+    let joined = joining_of(w % 4);
     Reading {
         at: s.at + 1,
         out: s.out,
         depth: s.depth - 1,
-        joined: w % 4,
+        joined,
         start: w as usize / 4,
-        top: top_by(w % 4, s),
-        last: last_by(w % 4, s),
+        top: top_by(joined, s),
+        last: last_by(joined, s),
     }
 }
 

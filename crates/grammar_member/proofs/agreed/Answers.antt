@@ -1,14 +1,9 @@
-use mathlib.Core.Path.{refl}
-use borrow.Author.Tests.{eq-eqb, ne_eqb}
+use mathlib.Core.Path.{refl, sym, ◌∙◌}
 use Rattle.base.proofs.Cases.{pick_yes, pick_no}
 use Rattle.grammar_member.proofs.agreed.Goals as goal
 
-pub returns-then-joined-eq0 : goal.returns-then-joined-eq0
-returns-then-joined-eq0 c = pick_yes _ _ _ _ (eq-eqb _ _ c.if-joined-eq0.true) refl
+pub returns-in-Some : goal.returns-in-Some
+returns-in-Some c = rw c.in-Some.is (pick_no _ _ _ _ (sym c.same_word.ensures ∙ c.if-not-same_word.true) refl)
 
-pub returns-then-joined-w : goal.returns-then-joined-w
-returns-then-joined-w c =
-    pick_no _ _ _ _ (ne_eqb _ _ c.if-joined-eq0.false) (pick_yes _ _ _ _ (eq-eqb c.args.joined c.args.w c.if-joined-w.true) refl)
-
-pub returns : goal.returns
-returns c = pick_no _ _ _ _ (ne_eqb _ _ c.if-joined-eq0.false) (pick_no _ _ _ _ (ne_eqb _ _ c.if-joined-w.false) refl)
+pub returns-in_default : goal.returns-in_default
+returns-in_default c = rw c.in-Some.is (pick_yes _ _ _ _ (sym c.same_word.ensures ∙ c.if-not-same_word.false) refl)

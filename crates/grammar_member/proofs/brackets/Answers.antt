@@ -3,6 +3,7 @@ use mathlib.Core.Path.{sym, ◌∙◌}
 use native.Mathlib.Omega.{arith}
 use lib.ListN.{length-set}
 use Rattle.grammar_comparison.proofs.Relations.{opens_inside}
+use Rattle.grammar_member.specs.Internal.{code}
 use Rattle.grammar_member.proofs.Levels.{opened}
 use Rattle.grammar_member.proofs.brackets.Goals as goal
 
@@ -23,14 +24,13 @@ loop-stack-preserved c =
     let e = sym c.opens_condition.ensures ∙ c.loop-stack-test.true in
     let h = opens_inside c.args.tokens.now _ e in
     let p = c.requires in
-    rw c.begun-t.ensures
+    rw (c.begun-t.ensures, c.code_of.ensures.coded)
     (record {
       on = omega (arith, i.on);
       inside = omega (arith, h);
       written = i.written;
       few = omega (arith, i.few);
       begins = omega arith;
-      words = omega arith;
-      deep = length-set c.loop-stack.stack c.loop-stack.t.depth (c.loop-stack.t.start * 4 + c.loop-stack.t.joined) ∙ i.deep;
+      deep = length-set c.loop-stack.stack c.loop-stack.t.depth (c.loop-stack.t.start * 4 + code c.loop-stack.t.joined) ∙ i.deep;
       to_come = λ fs base all r. opened _ _ _ _ _ _ e (omega (arith, i.few, i.deep, h, p.few, p.short, p.deep)) (i.to_come fs base all r);
     })
