@@ -2,11 +2,11 @@
 #![tactic(auto)]
 
 ghost use Rattle.std.specs.Prelude.{◌≡◌, take};
-ghost use Rattle.object_reader.specs.Answers.{verdict};
+ghost use Rattle.object_reader.specs.Answers.{refusal_of};
 ghost use Rattle.call.specs.Reply.{reply as reply_of};
 ghost use Rattle.call.specs.Answers.{verdict_reply};
 
-use object_reader::Reading;
+use object_reader::Refusal;
 
 pub fn reply(number: u32, value: u32) -> u64
     ensures { result ≡ reply_of number value }
@@ -18,22 +18,18 @@ pub fn reply(number: u32, value: u32) -> u64
 pub fn front(words: &[u64], n: usize) -> &[u64]
     ensures { result.now ≡ take n words.now }
 {
-    if n < words.len() {
-        return &words[..n];
-    }
-    &words[..words.len()]
+    &words[..n.min(words.len())]
 }
 
 // The reply to an object that is refused.
-pub fn refusal(reading: Reading) -> u64
-    ensures { result ≡ verdict_reply (verdict reading) }
+pub fn refusal(reason: Refusal) -> u64
+    ensures { result ≡ verdict_reply (refusal_of reason) }
 {
-    match reading {
-        Reading::Good(_, _, _) => reply(0, 0),
-        Reading::Header => reply(21, 0),
-        Reading::Line(k) => reply(22, k),
-        Reading::Word(k) => reply(23, k),
-        Reading::Address(k) => reply(24, k),
-        Reading::Stop(k) => reply(25, k),
+    match reason {
+        Refusal::Header => reply(21, 0),
+        Refusal::Line(place) => reply(22, place),
+        Refusal::Word(place) => reply(23, place),
+        Refusal::Address(place) => reply(24, place),
+        Refusal::Stop(place) => reply(25, place),
     }
 }

@@ -9,46 +9,36 @@ ghost use Rattle.skimp_state.specs.State.{registers_of, words_at};
 ghost use Rattle.call.specs.Run.{call, run_call, ran_call, object_call, is_ending, registers_fit, state_fits};
 
 use call::{refusal, reply};
-use machine::Registers;
-use object_reader::Reading;
+use machine::{Registers, STOPPED};
 use order::MOST_ORDERS;
 use skimp_state::{load_words, registers, store_registers, store_words};
 
 // The words of the longest frame: `most_words` of order/specs/Limits.antt.
 const MOST_WORDS: usize = (order::MOST_VARIABLES + order::MOST_TEMPORARIES + 2) as usize;
 
+#[tactic(auto, unfolding(base::specs::Choice::pick, call::specs::Run::is_ending))]
 fn is_ending(e: u32) -> bool
     ensures { result ≡ is_ending e }
 {
-    if e < 5 {
-        return true;
-    }
-    e == 20
+    e < 5 || e == STOPPED
 }
 
 // 26: whether registers fit an object with n orders and an output with so much room.
+#[tactic(auto, unfolding(base::specs::Choice::pick, call::specs::Run::registers_fit))]
 fn registers_fit(n: u32, room: u64, r: Registers) -> bool
     ensures { result ≡ registers_fit n room r }
 {
-    if (n as usize) <= r.next {
-        return false;
-    }
-    if room < r.sent {
-        return false;
-    }
-    is_ending(r.ending)
+    r.next < n as usize && r.sent <= room && is_ending(r.ending)
 }
 
 // 26: whether a state fits an object with so many words and n orders.
+#[tactic(auto, unfolding(base::specs::Choice::pick, call::specs::Run::state_fits))]
 fn state_fits(words: usize, n: u32, state: &[u8], output: &[u8]) -> bool
     requires { words ≤ most_words }
     ensures { result ≡ state_fits words n state.now output.now }
 {
-    if state.len() != 20 + 4 * words {
-        return false;
-    }
     let room = (output.len() / 4) as u64;
-    registers_fit(n, room, registers(state))
+    state.len() == 20 + 4 * words && registers_fit(n, room, registers(state))
 }
 
 // The run itself, with a lent array of the object's words.
@@ -113,10 +103,11 @@ pub fn run(object: &[u8], state: &mut [u8], output: &mut [u8], budget: u32) -> u
         ≡ run_call object.now state.old output.old budget }
 {
     let mut orders = [0u64; MOST_ORDERS as usize];
-    let reading = object_reader::read(object, &mut orders);
-    let Reading::Good(v, t, n) = reading else {
-        return refusal(reading);
-    };
-    let words = (v + t + 2) as usize;
-    run_orders(&orders, words, n, state, output, budget)
+    match object_reader::read(object, &mut orders) {
+        Ok(frame) => {
+            let words = (frame.variables + frame.temporaries + 2) as usize;
+            run_orders(&orders, words, frame.orders, state, output, budget)
+        }
+        Err(reason) => refusal(reason),
+    }
 }

@@ -10,6 +10,8 @@ use borrow.Author.Tests.{lt-ltb, le-ltb, ltb-true, ltb-false}
 use lib.Dec.{ltb, eqb}
 use lib.ListN.{length, drop, set, length-append, length-map}
 use lib.Seq.{sets, append_snoc, length-sets}
+use Rattle.std.specs.Prelude.{Option, Some, None, IfSome, unwrap_or}
+use Rattle.std.specs.Option.{option_or}
 use Rattle.base.specs.Choice.{pick}
 use Rattle.base.specs.Front.{found, missing, on_front}
 use Rattle.base.proofs.Cases.{by_test}
@@ -20,10 +22,11 @@ use Rattle.order.specs.Limits.{most_variables, most_temporaries, most_orders}
 use Rattle.order.specs.Memory.{order_word}
 use Rattle.order.specs.Object.{within_limits, record_at, Lines, lines_at, Reading, refused}
 use Rattle.order.specs.Object.{operand_refusal, is_stop, first_operand, first_stop}
+use Rattle.object_reader.specs.declared.Refusal.{Refusal}
+use Rattle.object_reader.specs.declared.Refusal.TheVariants.{Header, Line, Word as BadWord, Address as BadAddress, Stop as LateStop}
 use Rattle.object_reader.specs.declared.Scan.{Scan}
-use Rattle.object_reader.specs.declared.Trouble.{Trouble}
-use Rattle.object_reader.specs.declared.Trouble.TheVariants.{Free, Word as BadWord, Address as BadAddress}
-use Rattle.object_reader.specs.Internal.{word_trouble, address_trouble, trouble_of, first_trouble, troubled, next_stop, noted_scan, ScanOf}
+use Rattle.object_reader.specs.Answers.{refusal_of}
+use Rattle.object_reader.specs.Internal.{word_trouble, address_trouble, trouble_of, reading_at, troubled, stop_here, noted_scan, ScanOf}
 
 -- ---- the limits
 
@@ -40,25 +43,6 @@ bounded v t n e =
     let b = only_no _ _ a.1 in
     let c = only_no _ _ b.1 in
     (ltb-false most_variables v a.0, ltb-false most_temporaries t b.0, ltb-true 0 n c.1, ltb-false most_orders n c.0)
-
-module _ (v t n : ℕ) where
-  pub over_variables : most_variables < v → false ≡ within_limits v t n
-  unfolding within_limits pick
-  over_variables h = rw (lt-ltb most_variables v h) refl
-
-  module _ (few_variables : v ≤ most_variables) where
-    pub over_temporaries : most_temporaries < t → false ≡ within_limits v t n
-    unfolding within_limits pick
-    over_temporaries h = rw (le-ltb most_variables v few_variables, lt-ltb most_temporaries t h) refl
-
-    module _ (few_temporaries : t ≤ most_temporaries) where
-      pub over_orders : most_orders < n → false ≡ within_limits v t n
-      unfolding within_limits pick
-      over_orders h = rw (le-ltb most_variables v few_variables, le-ltb most_temporaries t few_temporaries, lt-ltb most_orders n h) refl
-
-      pub some_orders : n ≤ most_orders → ltb 0 n ≡ within_limits v t n
-      unfolding within_limits pick
-      some_orders h = rw (le-ltb most_variables v few_variables, le-ltb most_temporaries t few_temporaries, le-ltb most_orders n h) refl
 
 -- ---- one order more
 
@@ -107,19 +91,48 @@ module _ (words n : ℕ) where
       (operand_snoc (suc k) os o after
       ∙ ap (λ i. first_operand words n (suc k) os (troubled (trouble_of words n i o) after)) (omega arith))
 
-troubled_twice : (t u : Trouble) (after : Reading) → troubled t (troubled u after) ≡ troubled (first_trouble t u) after
-troubled_twice Free u after = refl
-troubled_twice (BadWord k) u after = refl
-troubled_twice (BadAddress k) u after = refl
+-- a check that is failed gives the same whatever comes after it
+refused_first : (r : Refusal) (x y : Reading) → reading_at (refusal_of r) x ≡ reading_at (refusal_of r) y
+refused_first Header x y = refl
+refused_first (Line k) x y = refl
+refused_first (BadWord k) x y = refl
+refused_first (BadAddress k) x y = refl
+refused_first (LateStop k) x y = refl
 
-stop_snoc : (k : ℕ) (os : List Order) (o : Order) → first_stop k (os ++ o ∷ []) ≡ next_stop (first_stop k os) (k + length os) o
+troubled_twice : (t u : Option Refusal) (after : Reading) → troubled t (troubled u after) ≡ troubled (option_or t u) after
+troubled_twice None u after = refl
+troubled_twice (Some r) u after = refused_first r (troubled u after) after
+
+-- the first STOP of some orders, if there is one
+stop_among : (k : ℕ) (os : List Order) (o : Order) → first_stop k (os ++ o ∷ []) ≡ pick (ltb (first_stop k os) (k + length os)) (first_stop k os) (pick (is_stop o) (k + length os) (k + length os + 1))
 unfolding first_stop pick
-stop_snoc k [] o = rw (add-zero k, le-ltb k k (omega arith), add-one k) refl
-stop_snoc k (x ∷ os) o =
+stop_among k [] o = rw (add-zero k, le-ltb k k (omega arith), add-one k) refl
+stop_among k (x ∷ os) o =
+    let shift : suc k + length os ≡ k + suc (length os) = omega arith in
     by_test
     (is_stop x)
     (λ e. rw (e, lt-ltb k (k + suc (length os)) (omega arith)) refl)
-    (λ e. rw e (stop_snoc (suc k) os o ∙ ap (λ i. next_stop (first_stop (suc k) os) i o) (omega arith)))
+    (λ e. rw (e, ← shift) (stop_among (suc k) os o))
+
+stop_snoc :
+    (stop : Option ℕ) (os : List Order) (o : Order)
+    → unwrap_or stop (length os) ≡ first_stop 0 os
+    → IfSome stop (λ k. k < length os)
+    → unwrap_or (option_or stop (stop_here o (length os))) (length os + 1) ≡ first_stop 0 (os ++ o ∷ [])
+unfolding pick
+stop_snoc None os o e h =
+    let all : 0 + length os ≡ length os = omega arith in
+    rw (stop_among 0 os o, ← e, all, le-ltb (length os) (length os) (omega arith))
+    (by_test (is_stop o) (λ y. rw y refl) (λ n. rw n refl))
+stop_snoc (Some k) os o e h = rw (stop_among 0 os o, ← e, lt-ltb k (0 + length os) (omega arith)) refl
+
+early_snoc :
+    (stop : Option ℕ) (n : ℕ) (o : Order)
+    → IfSome stop (λ k. k < n)
+    → IfSome (option_or stop (stop_here o n)) (λ k. k < n + 1)
+unfolding pick
+early_snoc None n o h = by_test (is_stop o) (λ y. rw y (omega arith)) (λ y. rw y tt)
+early_snoc (Some k) n o h = omega arith
 
 map_snoc : {A B : Type 0} (f : A → B) (l : List A) (a : A) → map f (l ++ a ∷ []) ≡ map f l ++ f a ∷ []
 map_snoc f [] a = refl
@@ -153,11 +166,12 @@ pub record Filling (words n : ℕ) (s : List ℕ) (at : ℕ) (array₀ array : L
   pub few : scan.count ≤ n
   pub here : lines_at n (drop at s) ≡ after_lines orders (lines_at (n - scan.count) (drop scan.at s))
   pub checked : (after : Reading) → first_operand words n 0 orders after ≡ troubled scan.trouble after
-  pub stops : scan.stop ≡ first_stop 0 orders
+  pub stops : unwrap_or scan.stop scan.count ≡ first_stop 0 orders
+  pub early : IfSome scan.stop (λ k. k < scan.count)
   pub filled : array ≡ sets array₀ 0 (map order_word orders)
 
 module _ (words n : ℕ) (s : List ℕ) (at : ℕ) (array₀ : List ℕ) where
-  pub filling_start : Filling words n s at array₀ array₀ (record { at = at; count = 0; trouble = Free; stop = 0 })
+  pub filling_start : Filling words n s at array₀ array₀ (record { at = at; count = 0; trouble = None; stop = None })
   unfolding first_operand first_stop
   filling_start = record {
     orders = [];
@@ -166,6 +180,7 @@ module _ (words n : ℕ) (s : List ℕ) (at : ℕ) (array₀ : List ℕ) where
     here = let z : n ≡ n - 0 = omega arith in ap (λ k. lines_at k (drop at s)) z;
     checked = λ after. refl;
     stops = refl;
+    early = tt;
     filled = refl;
   }
 
@@ -195,11 +210,9 @@ module _ (words n : ℕ) (s : List ℕ) (at : ℕ) (array₀ : List ℕ) where
           operand_snoc words n 0 f.orders o after
           ∙ f.checked (troubled (trouble_of words n (0 + length f.orders) o) after)
           ∙ troubled_twice scan.trouble (trouble_of words n (0 + length f.orders) o) after
-          ∙ ap (λ k. troubled (first_trouble scan.trouble (trouble_of words n k o)) after) place;
-      stops =
-          ap (λ k. next_stop k scan.count o) f.stops
-          ∙ ap (λ k. next_stop (first_stop 0 f.orders) k o) (sym place)
-          ∙ sym (stop_snoc 0 f.orders o);
+          ∙ ap (λ k. troubled (option_or scan.trouble (trouble_of words n k o)) after) place;
+      stops = rw f.counted (stop_snoc scan.stop f.orders o (rw f.counted at f.stops) (rw f.counted at f.early));
+      early = early_snoc scan.stop scan.count o f.early;
       filled = ap (λ l. set l scan.count (order_word o)) f.filled ∙ fill_more order_word array₀ f.orders o scan.count f.counted;
     }
       where
@@ -216,7 +229,7 @@ module _ (words n : ℕ) (s : List ℕ) (at : ℕ) (array₀ : List ℕ) where
         → ScanOf words n s (lines_at n (drop at s)) scan × (array ≡ sets array₀ 0 (map order_word (lines_at n (drop at s)).orders))
     filling_end e =
         rw (f.here ∙ ap (λ ls. after_lines f.orders ls) e ∙ ap (λ l. lines l (drop scan.at s)) (append-nil f.orders)) (
-          record { counted = f.counted; behind = refl; operands = f.checked; stops = f.stops },
+          record { counted = f.counted; behind = refl; operands = f.checked; stops = f.stops; early = f.early },
           f.filled,
         )
 

@@ -1,5 +1,6 @@
 -- What the answers of the private functions stand for, and what their loops do. A reader of the promises needs none of it.
-use Rattle.std.specs.Prelude.{ℕ, ◌+◌, ◌-◌, ◌<◌, ◌≤◌, ◌≡◌, List, ltb, eqb, length, drop}
+use Rattle.std.specs.Prelude.{ℕ, ◌+◌, ◌-◌, ◌<◌, ◌≤◌, ◌≡◌, List, Option, Some, None, IfSome, unwrap_or, ltb, eqb, length, drop}
+use Rattle.std.specs.Option.{option_or}
 use Rattle.base.specs.Choice.{pick}
 use Rattle.base.specs.Front.{found, missing}
 use Rattle.text.specs.Pieces.{Front}
@@ -7,64 +8,61 @@ use Rattle.order.specs.declared.Order.{Order}
 use Rattle.order.specs.declared.Order.TheVariants.{Word, Number as OnNumber, Store, Neg, Not, Jump, Skip, Branch, Cond, Send, Stop}
 use Rattle.order.specs.Limits.{most_variables, most_temporaries, most_orders}
 use Rattle.order.specs.Object.{Header, Lines, Reading, refused, first_operand, first_stop, is_stop}
-use Rattle.object_reader.specs.declared.Head.{Head}
-use Rattle.object_reader.specs.declared.Head.TheVariants.{Found as FoundHead, Missing as NoHead}
+use Rattle.object_reader.specs.declared.Frame.{Frame}
+use Rattle.object_reader.specs.declared.Refusal.{Refusal}
+use Rattle.object_reader.specs.declared.Refusal.TheVariants.{Word as BadWord, Address as BadAddress}
 use Rattle.object_reader.specs.declared.Scan.{Scan}
-use Rattle.object_reader.specs.declared.Trouble.{Trouble}
-use Rattle.object_reader.specs.declared.Trouble.TheVariants.{Free, Word as BadWord, Address as BadAddress}
-use Rattle.object_reader.specs.Answers.{Verdict, good, refusal}
+use Rattle.object_reader.specs.Answers.{Verdict, good, refusal, refusal_of}
 
 -- ---- the header
 
-abbrev pub header_found : List ℕ → Head → Front Header
-header_found s (FoundHead v t n i) = found (record { variables = v; temporaries = t; orders = n }) (drop i s)
-header_found s NoHead = missing
+abbrev pub header_found : List ℕ → Option (Frame × ℕ) → Front Header
+header_found s (Some (f, i)) = found (record { variables = f.variables; temporaries = f.temporaries; orders = f.orders }) (drop i s)
+header_found s None = missing
 
-abbrev pub header_bounded : Head → Type 0
-header_bounded (FoundHead v t n i) = (v ≤ most_variables) × (t ≤ most_temporaries) × (0 < n) × (n ≤ most_orders)
-header_bounded NoHead = Unit {0}
+abbrev pub header_bounded : Option (Frame × ℕ) → Type 0
+header_bounded (Some (f, i)) = (f.variables ≤ most_variables) × (f.temporaries ≤ most_temporaries) × (0 < f.orders) × (f.orders ≤ most_orders)
+header_bounded None = Unit {0}
 
 -- ---- the records, one after the other
 
-abbrev pub word_trouble : ℕ → ℕ → ℕ → Trouble
-word_trouble w words place = pick (ltb w 2) (BadWord place) (pick (ltb w words) Free (BadWord place))
+abbrev pub word_trouble : ℕ → ℕ → ℕ → Option Refusal
+word_trouble w words place = pick (ltb w 2) (Some (BadWord place)) (pick (ltb w words) None (Some (BadWord place)))
 
-abbrev pub address_trouble : ℕ → ℕ → ℕ → Trouble
-address_trouble a n place = pick (ltb a n) Free (BadAddress place)
+abbrev pub address_trouble : ℕ → ℕ → ℕ → Option Refusal
+address_trouble a n place = pick (ltb a n) None (Some (BadAddress place))
 
-abbrev pub trouble_of : ℕ → ℕ → ℕ → Order → Trouble
+abbrev pub trouble_of : ℕ → ℕ → ℕ → Order → Option Refusal
 trouble_of words n place (Word f w) = word_trouble w words place
-trouble_of words n place (OnNumber f k) = Free
+trouble_of words n place (OnNumber f k) = None
 trouble_of words n place (Store w) = word_trouble w words place
-trouble_of words n place Neg = Free
-trouble_of words n place Not = Free
+trouble_of words n place Neg = None
+trouble_of words n place Not = None
 trouble_of words n place (Jump a) = address_trouble a n place
 trouble_of words n place (Skip a) = address_trouble a n place
 trouble_of words n place (Branch r a) = address_trouble a n place
-trouble_of words n place (Cond k) = Free
-trouble_of words n place Send = Free
-trouble_of words n place Stop = Free
+trouble_of words n place (Cond k) = None
+trouble_of words n place Send = None
+trouble_of words n place Stop = None
 
-abbrev pub first_trouble : Trouble → Trouble → Trouble
-first_trouble Free after = after
-first_trouble (BadWord k) after = BadWord k
-first_trouble (BadAddress k) after = BadAddress k
+-- what is read where a check is failed, else what comes after this check
+abbrev pub reading_at : Verdict → Reading → Reading
+reading_at (good v t n) after = after
+reading_at (refusal n place) after = refused n place
 
--- what is read where a trouble is met, else what comes after this check
-abbrev pub troubled : Trouble → Reading → Reading
-troubled Free after = after
-troubled (BadWord k) after = refused 23 k
-troubled (BadAddress k) after = refused 24 k
+abbrev pub troubled : Option Refusal → Reading → Reading
+troubled None after = after
+troubled (Some trouble) after = reading_at (refusal_of trouble) after
 
-abbrev pub next_stop : ℕ → ℕ → Order → ℕ
-next_stop before place o = pick (ltb before place) before (pick (is_stop o) place (place + 1))
+abbrev pub stop_here : Order → ℕ → Option ℕ
+stop_here o place = pick (is_stop o) (Some place) None
 
 abbrev pub noted_scan : ℕ → ℕ → Order → ℕ → Scan → Scan
 noted_scan words n o at scan = record {
   at = at;
   count = scan.count + 1;
-  trouble = first_trouble scan.trouble (trouble_of words n scan.count o);
-  stop = next_stop scan.stop scan.count o;
+  trouble = option_or scan.trouble (trouble_of words n scan.count o);
+  stop = option_or scan.stop (stop_here o scan.count);
 }
 
 -- what is known after the lines ls of the text s
@@ -72,20 +70,20 @@ pub record ScanOf (words n : ℕ) (s : List ℕ) (ls : Lines) (scan : Scan) : Ty
   pub counted : scan.count ≡ length ls.orders
   pub behind : drop scan.at s ≡ ls.rest
   pub operands : (after : Reading) → first_operand words n 0 ls.orders after ≡ troubled scan.trouble after
-  pub stops : scan.stop ≡ first_stop 0 ls.orders
+  pub stops : unwrap_or scan.stop scan.count ≡ first_stop 0 ls.orders
+  pub early : IfSome scan.stop (λ k. k < scan.count)
 
-abbrev pub stop_verdict : ℕ → ℕ → ℕ → ℕ → Verdict
-stop_verdict stop v t n =
-    pick (eqb stop (n - 1)) (good v t n) (pick (ltb stop (n - 1)) (refusal 25 stop) (refusal 25 (n - 1)))
+abbrev pub stop_verdict : Option ℕ → Frame → Verdict
+stop_verdict (Some k) f = pick (eqb k (f.orders - 1)) (good f.variables f.temporaries f.orders) (refusal 25 k)
+stop_verdict None f = refusal 25 (f.orders - 1)
 
-abbrev pub trouble_verdict : Trouble → Verdict → Verdict
-trouble_verdict Free after = after
-trouble_verdict (BadWord k) after = refusal 23 k
-trouble_verdict (BadAddress k) after = refusal 24 k
+abbrev pub trouble_verdict : Option Refusal → Verdict → Verdict
+trouble_verdict None after = after
+trouble_verdict (Some trouble) after = refusal_of trouble
 
-abbrev pub scan_verdict : Scan → ℕ → ℕ → ℕ → ℕ → Verdict
-scan_verdict scan len v t n =
+abbrev pub scan_verdict : Scan → ℕ → Frame → Verdict
+scan_verdict scan len f =
     pick
-    (ltb scan.count n)
+    (ltb scan.count f.orders)
     (refusal 22 scan.count)
-    (pick (ltb scan.at len) (refusal 22 n) (trouble_verdict scan.trouble (stop_verdict scan.stop v t n)))
+    (pick (ltb scan.at len) (refusal 22 f.orders) (trouble_verdict scan.trouble (stop_verdict scan.stop f)))

@@ -1,14 +1,12 @@
 -- What each case of the writer's answer stands for.
-use Rattle.std.specs.Prelude.{ℕ, ◌≤◌, List, length}
+use Rattle.std.specs.Prelude.{ℕ, ◌≤◌, List, Option, Some, None, length}
 use Rattle.text.specs.Buffer.{Reply, reply, reply_or}
 use Rattle.order.specs.Limits.{most_orders}
-use Rattle.object_writer.specs.declared.Written.{Written}
-use Rattle.object_writer.specs.declared.Written.TheVariants.{Whole, Short}
 
 -- 0 "accepted; text length given", 12 "object buffer too short, all else well"
-abbrev pub written : Written → Reply
-written (Whole n) = reply 0 n
-written Short = reply 12 0
+abbrev pub written : Option ℕ → Reply
+written (Some n) = reply 0 n
+written None = reply 12 0
 
 -- the reply for a text and a buffer
 abbrev pub reply_for : List ℕ → List ℕ → Reply

@@ -1,22 +1,16 @@
 -- Orders and operations by their numbers.
 use Prim.Native.Nat.{ℕ, ◌+◌, ◌-◌, ◌<◌, ◌≤◌}
-use mathlib.Core.Path.{◌≡◌, refl, sym, ap, ◌∙◌}
+use mathlib.Core.Path.{◌≡◌, sym, ap, ◌∙◌}
 use mathlib.Core.List.{map}
 use native.Mathlib.Omega.{arith}
 use lib.ListN.{get_or, take, drop}
-use lib.Seq.{get_or-take}
 use Rattle.base.proofs.Lists.{get_d_map_inside, among}
 use Rattle.order.specs.declared.Operation.{Operation}
 use Rattle.order.specs.declared.Operation.TheVariants.{Cmp}
 use Rattle.order.specs.declared.Order.{Order}
-use Rattle.order.specs.declared.Order.TheVariants.{Word, Number, Skip, Cond, Stop}
+use Rattle.order.specs.declared.Order.TheVariants.{Word, Number, Stop}
 use Rattle.order.specs.Order.{operations}
 use Rattle.order.specs.Memory.{shapes, order_of}
-use Rattle.order_number.specs.Internal.{plain_order}
-
-pub order_plain : (k v : ℕ) → k < 12 → plain_order k v ≡ order_of k v
-unfolding plain_order order_of
-order_plain k v h = ap (λ f. f v) (get_or-take 12 shapes k (λ v. Stop) h)
 
 -- an operation on a word has its operation's number and 12, one on a number its operation's and 24
 abbrev on_word : Operation → ℕ → Order
@@ -52,11 +46,3 @@ pub number_again : (k v : ℕ) → 24 ≤ k → k < 36 → Number (get_or operat
 number_again k v g h =
     let e : 24 + (k - 24) ≡ k = omega arith in
     order_number (k - 24) v (omega arith) ∙ ap (λ n. order_of n v) e
-
-pub skip_again : (k v : ℕ) → k ≡ 36 → Skip v ≡ order_of k v
-unfolding shapes order_of
-skip_again k v e = rw e refl
-
-pub cond_again : (k v : ℕ) → k ≡ 37 → Cond v ≡ order_of k v
-unfolding shapes order_of
-cond_again k v e = rw e refl

@@ -5,7 +5,6 @@ ghost use Rattle.std.specs.Prelude.{◌≡◌, ◌<◌, ◌+◌, ◌*◌, get_or
 ghost use Rattle.order.specs.Order.{operand, operations};
 ghost use Rattle.order.specs.Memory.{operation_number, branch_number, number, order_of, order_word, order_in};
 ghost use Rattle.order.specs.declared.Operation.TheVariants.{Cmp};
-ghost use Rattle.order_number.specs.Internal.{plain_order};
 
 use base::put;
 use order::{Operation, Order};
@@ -94,10 +93,10 @@ fn operation(k: u8) -> Operation
     }
 }
 
-// An order with a number below 12: one that is no operation with a word or a number.
-#[tactic(auto, unfolding(crate::specs::Internal::plain_order, order::specs::Memory::shapes))]
-fn plain_order(k: u8, v: u32) -> Order
-    ensures { result ≡ plain_order k v }
+// The order with a number and an operand; STOP where no order has the number.
+#[tactic(auto, unfolding(order::specs::Memory::order_of, order::specs::Memory::shapes))]
+pub fn order_of(k: u8, v: u32) -> Order
+    ensures { result ≡ order_of k v }
 {
     match k {
         0 => Order::Stop,
@@ -112,16 +111,6 @@ fn plain_order(k: u8, v: u32) -> Order
         9 => Order::Branch(Relation::Greater, v),
         10 => Order::Branch(Relation::AtLeast, v),
         11 => Order::Store(v),
-        _ => Order::Stop,
-    }
-}
-
-// The order with a number and an operand; STOP where no order has the number.
-pub fn order_of(k: u8, v: u32) -> Order
-    ensures { result ≡ order_of k v }
-{
-    match k {
-        0..=11 => plain_order(k, v),
         12..=23 => Order::Word(operation(k - 12), v),
         24..=35 => Order::Number(operation(k - 24), v),
         36 => Order::Skip(v),

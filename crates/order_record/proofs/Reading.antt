@@ -49,7 +49,7 @@ module _ (front table : List ℕ) (own : table ≡ record_table) (a b c x : ℕ)
   unfolding pick
   likely_past e = subst (Likely front) (rw (← p, ← q, ← r, ← told, le-leb 24 (x % 64) e) refl) (guessed_likely front)
 
-  module _ (below : x % 64 < 24) (n d : ℕ) (m : n ≡ length (heading (order_of (x % 64) 0))) (k : d ≡ get_or front (n - 2) 0) where
+  module _ (row : List ℕ) (d : ℕ) (below : x % 64 < 24) (m : row ≡ heading (order_of (x % 64) 0)) (k : d ≡ get_or front (length row - 2) 0) where
     pub likely_number : d ≡ 75 → Likely front (x % 64 + 12)
     unfolding pick
     likely_number e =

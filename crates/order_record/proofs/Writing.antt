@@ -4,15 +4,14 @@ use mathlib.Core.Path.{◌≡◌, refl, sym, ap, ◌∙◌}
 use mathlib.Core.Bool.{Bool, true}
 use mathlib.Core.List.{List, map}
 use native.Mathlib.Omega.{arith}
-use borrow.Author.Tests.{ltb-true, lt-ltb}
+use borrow.Author.Tests.{ltb-true}
 use lib.Dec.{ltb}
 use lib.ListN.{length, get_or, take, drop, length-append}
-use Rattle.base.specs.Choice.{pick}
 use Rattle.base.specs.Text.{bytes}
 use Rattle.base.specs.Places.{each}
 use Rattle.base.proofs.Lists.{map_at}
 use Rattle.base.proofs.Places.{each_at}
-use Rattle.text.specs.Pieces.{decimal, Front, fixed}
+use Rattle.text.specs.Pieces.{decimal}
 use Rattle.text.specs.Internal.{Placed, put_byte, put_all}
 use Rattle.text.proofs.Writing.{put_all_append}
 use Rattle.order.specs.declared.Order.{Order}
@@ -22,7 +21,7 @@ use Rattle.order.specs.Memory.{number, shapes, order_of}
 use Rattle.order.specs.Object.{heading, record_text}
 use Rattle.order.proofs.Numbers.{order_again}
 use Rattle.order.proofs.Records.{heading_at_law}
-use Rattle.order_record.specs.Internal.{record_table, heading_at}
+use Rattle.order_record.specs.Internal.{record_table}
 
 -- ---- headings
 
@@ -30,10 +29,6 @@ use Rattle.order_record.specs.Internal.{record_table, heading_at}
 all_lengths : each (λ k. get_or record_table (266 + k) 0 % 16) 0 38 ≡ each (λ k. length (heading (order_of k 0))) 0 38
 unfolding each bytes order_of shapes
 all_lengths = refl
-
-pub heading_length : (table : List ℕ) → table ≡ record_table → (k x : ℕ) → x ≡ get_or table (266 + k) 0 → k < 38 → x % 16 ≡ length (heading (order_of k 0))
-heading_length table own k x e h =
-    rw (e, own) (each_at (λ j. get_or record_table (266 + j) 0 % 16) (λ j. length (heading (order_of j 0))) 38 all_lengths k h)
 
 module _ (k : ℕ) where
   -- a test of its length, as computed over all of them
@@ -55,18 +50,18 @@ all_rows : each (λ k. take (length (heading (order_of k 0))) (drop (7 * k) reco
 unfolding each bytes order_of shapes
 all_rows = refl
 
-module _ (table : List ℕ) (own : table ≡ record_table) (k n : ℕ) (row : List ℕ) (e : row ≡ take n (drop (7 * k) table)) where
-  row_heading : k < 38 → n ≡ length (heading (order_of k 0)) → row ≡ heading (order_of k 0)
-  row_heading h f =
-      rw (e, f, own)
-      (each_at (λ j. take (length (heading (order_of j 0))) (drop (7 * j) record_table)) (λ j. heading (order_of j 0)) 38 all_rows k h)
-
-  pub row_read : (l : List ℕ) (r : Front (List ℕ)) → k < 38 → n ≡ length (heading (order_of k 0)) → r ≡ fixed row l → r ≡ heading_at k l
-  unfolding pick
-  row_read l r h f g = rw (lt-ltb k 38 h, ← row_heading h f) g
-
-  pub row_put : (p q : Placed) → k < 38 → n ≡ length (heading (order_of k 0)) → q ≡ put_all row p → q ≡ put_all (heading (order_of k 0)) p
-  row_put p q h f g = rw (← row_heading h f) g
+-- so the part of the table that begins there and has that length is the heading
+pub row_here :
+    (table row : List ℕ) (k x : ℕ)
+    → table ≡ record_table
+    → x ≡ get_or table (266 + k) 0
+    → row ≡ take (x % 16) (drop (7 * k) table)
+    → k < 38
+    → row ≡ heading (order_of k 0)
+row_here table row k x own e here h =
+    let long = each_at (λ j. get_or record_table (266 + j) 0 % 16) (λ j. length (heading (order_of j 0))) 38 all_lengths k h in
+    rw (here, e, own, long)
+    (each_at (λ j. take (length (heading (order_of j 0))) (drop (7 * j) record_table)) (λ j. heading (order_of j 0)) 38 all_rows k h)
 
 -- ---- a record
 

@@ -1,5 +1,5 @@
 -- What the answers of the functions stand for. A reader of the promises needs none of it.
-use Rattle.std.specs.Prelude.{ℕ, ◌<◌, ◌≡◌, List, ◌++◌, ltb, eqb, take, drop}
+use Rattle.std.specs.Prelude.{ℕ, ◌<◌, ◌≡◌, List, ◌++◌, Option, Some, None, ltb, eqb, take, drop}
 use Rattle.base.specs.Choice.{pick}
 use Rattle.base.specs.Text.{bytes}
 use Rattle.base.specs.Front.{found, missing, on_front}
@@ -8,8 +8,6 @@ use Rattle.order.specs.declared.Order.{Order}
 use Rattle.order.specs.Order.{operand}
 use Rattle.order.specs.Memory.{order_of}
 use Rattle.order.specs.Object.{heading}
-use Rattle.order_record.specs.declared.Record.{Record}
-use Rattle.order_record.specs.declared.Record.TheVariants.{Found, Missing as NoRecord}
 
 -- what is known of the orders, by their numbers: their names and kinds, the lengths of these, and numbers by letters
 abbrev pub record_table : List ℕ
@@ -17,9 +15,9 @@ record_table =
     bytes
     "STOP\t-\tSEND\t-\tNEG\t-\t NOT\t-\t JMP\tA\t BE\tA\t  BNE\tA\t BLT\tA\t BLE\tA\t BGT\tA\t BGE\tA\t STR\tD\t LOAD\tD\tADD\tD\t SUB\tD\t MLT\tD\t DIV\tD\t EXP\tD\t SHL\tD\t SHR\tD\t AND\tD\t OR\tD\t  XOR\tD\t CMP\tD\t LOAD\tK\tADD\tK\t SUB\tK\t MLT\tK\t DIV\tK\t EXP\tK\t SHL\tK\t SHR\tK\t AND\tK\t OR\tK\t  XOR\tK\t CMP\tK\t SKIP\tA\tCOND\tK\t77666566666676666666656676666666656677@@Q@@EP@GFR@@@@@SJ@@@@W@C@@@D@@dI@@@e@@@N@@@@@MUKL@@A@O@@HVB@@T@"
 
-abbrev pub order_found : List ℕ → Record → Front Order
-order_found s (Found o i) = found o (drop i s)
-order_found s NoRecord = missing
+abbrev pub order_found : List ℕ → Option (Order × ℕ) → Front Order
+order_found s (Some (o, i)) = found o (drop i s)
+order_found s None = missing
 
 -- the name and kind of the order with the number k, if there is one
 abbrev pub heading_at : ℕ → List ℕ → Front (List ℕ)

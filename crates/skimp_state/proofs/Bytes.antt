@@ -1,11 +1,11 @@
 -- The bytes of numbers, and the loops over the words of a state.
-use Prim.Native.Nat.{ℕ, zero, suc, ◌+◌, ◌*◌, ◌/◌, ◌%◌, ◌<◌, ◌≤◌}
+use Prim.Native.Nat.{ℕ, zero, suc, ◌+◌, ◌*◌, ◌/◌, ◌%◌, ◌<◌}
 use mathlib.Core.Path.{◌≡◌, refl, sym, ap, ◌∙◌}
 use mathlib.Core.List.{List, [], ◌∷◌, ◌++◌, append-nil, append_assoc}
 use native.Mathlib.Omega.{arith}
 use native.Mathlib.Nat.{add-zero}
-use lib.ListN.{length, get_or, take, drop, set, length-append, drop_of_length-le}
-use lib.Seq.{sets, set_at, append_snoc, length-take-le, length-sets, take_all}
+use lib.ListN.{length, get_or, take, drop, set, length-append}
+use lib.Seq.{sets, set_at, append_snoc, length-take-le}
 use Rattle.base.proofs.Lists.{drop_more, take_more, sets_append, four_stores}
 use Rattle.machine.specs.declared.Registers.{Registers}
 use Rattle.skimp_state.specs.State.{number_at, number_bytes, register_bytes, words_at, words_bytes, state_bytes}
@@ -106,11 +106,6 @@ load_turn s words i h =
     ∙ sym (append_snoc (words_at i 20 s) (number_at 4 (20 + 4 * i) s) (drop (i + 1) words))
     ∙ ap (λ l. l ++ drop (i + 1) words) (sym (words_snoc i 20 s)))
 
-pub load_over : (s words : List ℕ) (i : ℕ) → length words ≤ i → i ≤ length words → words_at i 20 s ++ drop i words ≡ words_at (length words) 20 s
-load_over s words i h g =
-    let e : i ≡ length words = omega arith in
-    ap (λ l. words_at i 20 s ++ l) (drop_of_length-le words h) ∙ append-nil (words_at i 20 s) ∙ ap (λ n. words_at n 20 s) e
-
 words_bytes_snoc : (ws : List ℕ) (w : ℕ) → words_bytes (ws ++ w ∷ []) ≡ words_bytes ws ++ number_bytes 4 w
 unfolding words_bytes
 words_bytes_snoc [] w = append-nil (number_bytes 4 w)
@@ -132,13 +127,6 @@ store_turn s words i h =
     ap (λ k. sets (sets s 20 (words_bytes (take i words))) k (number_bytes 4 (get_or words i 0))) place
     ∙ sym (sets_append s 20 (words_bytes (take i words)) (number_bytes 4 (get_or words i 0)))
     ∙ ap (λ l. sets s 20 l) (sym (words_bytes_snoc (take i words) (get_or words i 0)) ∙ ap words_bytes (sym (take_more words i 0 h)))
-
-pub store_over :
-    (s s₀ words : List ℕ) (i : ℕ) → s ≡ sets s₀ 20 (words_bytes (take i words)) → length words ≤ i → s ≡ sets s₀ 20 (words_bytes words)
-store_over s s₀ words i e h = e ∙ ap (λ l. sets s₀ 20 (words_bytes l)) (take_all i words h)
-
-pub stored_length : (s s₀ words : List ℕ) (i : ℕ) → s ≡ sets s₀ 20 (words_bytes (take i words)) → length s ≡ length s₀
-stored_length s s₀ words i e = ap length e ∙ length-sets s₀ 20 (words_bytes (take i words))
 
 pub length_registers : (r : Registers) → length (register_bytes r) ≡ 20
 unfolding register_bytes number_bytes

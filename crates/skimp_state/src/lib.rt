@@ -6,7 +6,7 @@ ghost use Rattle.std.proofs.lemmas.List.Edits.{sets};
 ghost use Rattle.order.specs.Limits.{most_words};
 ghost use Rattle.skimp_state.specs.State.{number_at, number_bytes, registers_of, register_bytes, words_at, words_bytes};
 
-use base::{byte_at, put_byte};
+use base::{at, put};
 use machine::Registers;
 
 // The number in four bytes, highest first.
@@ -14,11 +14,12 @@ fn load_word(s: &[u8], i: usize) -> u32
     requires { i ≤ 20 + 4 * most_words }
     ensures { result ≡ number_at 4 i s.now }
 {
-    let a = byte_at(s, i) as u32;
-    let b = byte_at(s, i + 1) as u32;
-    let c = byte_at(s, i + 2) as u32;
-    let d = byte_at(s, i + 3) as u32;
-    ((a * 256 + b) * 256 + c) * 256 + d
+    u32::from_be_bytes([
+        at(s, i, 0),
+        at(s, i + 1, 0),
+        at(s, i + 2, 0),
+        at(s, i + 3, 0),
+    ])
 }
 
 pub fn registers(s: &[u8]) -> Registers
@@ -38,10 +39,8 @@ pub fn load_words(s: &[u8], words: &mut [u32])
     requires { length words.old ≤ most_words }
     ensures { words.new ≡ words_at (length words.old) 20 s.now }
 {
-    let mut i = 0;
-    while i < words.len() {
-        words[i] = load_word(s, 20 + 4 * i);
-        i += 1;
+    for (i, w) in words.iter_mut().enumerate() {
+        *w = load_word(s, 20 + 4 * i);
     }
 }
 
@@ -50,10 +49,11 @@ fn store_word(s: &mut [u8], i: usize, w: u32)
     requires { i ≤ 20 + 4 * most_words }
     ensures { s.new ≡ sets s.old i (number_bytes 4 w) }
 {
-    put_byte(s, i, (w / 16777216 % 256) as u8);
-    put_byte(s, i + 1, (w / 65536 % 256) as u8);
-    put_byte(s, i + 2, (w / 256 % 256) as u8);
-    put_byte(s, i + 3, (w % 256) as u8);
+    let [a, b, c, d] = w.to_be_bytes();
+    put(s, i, a);
+    put(s, i + 1, b);
+    put(s, i + 2, c);
+    put(s, i + 3, d);
 }
 
 pub fn store_registers(s: &mut [u8], r: Registers)
@@ -70,9 +70,7 @@ pub fn store_words(s: &mut [u8], words: &[u32])
     requires { length words.now ≤ most_words }
     ensures { s.new ≡ sets s.old 20 (words_bytes words.now) }
 {
-    let mut i = 0;
-    while i < words.len() {
-        store_word(s, 20 + 4 * i, words[i]);
-        i += 1;
+    for (i, &w) in words.iter().enumerate() {
+        store_word(s, 20 + 4 * i, w);
     }
 }

@@ -6,50 +6,36 @@ use Rattle.order.specs.Object.{header_at}
 use Rattle.object_reader.proofs.Scanning.{bounded}
 use Rattle.object_reader.proofs.header_at.Goals as goal
 
-pub returns-in_default : goal.returns-in_default
+pub returns-in_err-at-clause-found : goal.returns-in_err-at-clause-found
 unfolding header_at on_front bytes
-returns-in_default c =
-    record { found = rw (← c.fixed_at.ensures.read, c.in_default.is) refl; bounded = tt }
+returns-in_err-at-clause-found c = rw (c.from_residual.ensures, ← c.in_err-at.ensures.read) refl
 
-pub returns-in_default-numeral_at : goal.returns-in_default-numeral_at
+pub returns-in_err-variables-clause-found : goal.returns-in_err-variables-clause-found
 unfolding header_at on_front bytes
-returns-in_default-numeral_at c =
-    record { found = rw (← c.fixed_at.ensures.read, c.in-Behind.is, ← c.numeral_at.ensures.read, c.in_default-numeral_at.is) refl; bounded = tt }
+returns-in_err-variables-clause-found c =
+    rw (c.from_residual-in_err-variables.ensures, ← c.in_ok-at.ensures.read, ← c.in_err-variables.ensures.read) refl
 
-pub returns-in_default-numeral_at-2 : goal.returns-in_default-numeral_at-2
+pub returns-in_err-temporaries-clause-found : goal.returns-in_err-temporaries-clause-found
 unfolding header_at on_front bytes
-returns-in_default-numeral_at-2 c =
-    record {
-      found = rw (← c.fixed_at.ensures.read, c.in-Behind.is, ← c.numeral_at.ensures.read, c.in-Number.is)
-          (rw (← c.numeral_at-2.ensures.read, c.in_default-numeral_at-2.is) refl);
-      bounded = tt;
-    }
+returns-in_err-temporaries-clause-found c =
+    rw (c.from_residual-in_err-temporaries.ensures, ← c.in_ok-at.ensures.read, ← c.in_ok-variables.ensures.read, ← c.in_err-temporaries.ensures.read) refl
 
-pub returns-in_default-numeral_at-3 : goal.returns-in_default-numeral_at-3
+pub returns-in_err-orders-clause-found : goal.returns-in_err-orders-clause-found
 unfolding header_at on_front bytes
-returns-in_default-numeral_at-3 c =
-    record {
-      found = rw (← c.fixed_at.ensures.read, c.in-Behind.is, ← c.numeral_at.ensures.read, c.in-Number.is)
-          (rw (← c.numeral_at-2.ensures.read, c.in-Number-numeral_at.is, ← c.numeral_at-3.ensures.read, c.in_default-numeral_at-3.is) refl);
-      bounded = tt;
-    }
+returns-in_err-orders-clause-found c =
+    rw (c.from_residual-in_err-orders.ensures, ← c.in_ok-at.ensures.read, ← c.in_ok-variables.ensures.read, ← c.in_ok-temporaries.ensures.read, ← c.in_err-orders.ensures.read) refl
 
-pub returns-then-within_limits : goal.returns-then-within_limits
+pub returns-then-within_limits-clause-found : goal.returns-then-within_limits-clause-found
 unfolding header_at on_front bytes
-returns-then-within_limits c =
-    record {
-      found = rw (← c.fixed_at.ensures.read, c.in-Behind.is, ← c.numeral_at.ensures.read, c.in-Number.is)
-          (rw (← c.numeral_at-2.ensures.read, c.in-Number-numeral_at.is, ← c.numeral_at-3.ensures.read, c.in-Number-numeral_at-2.is)
-          (search cases depth 16));
-      bounded = bounded _ _ _ (sym c.within_limits.ensures ∙ c.if-within_limits.true);
-    }
+returns-then-within_limits-clause-found c =
+    rw (← c.in_ok-at.ensures.read, ← c.in_ok-variables.ensures.read, ← c.in_ok-temporaries.ensures.read, ← c.in_ok-orders.ensures.read)
+    (search cases depth 16)
 
-pub returns-else-within_limits : goal.returns-else-within_limits
+pub returns-then-within_limits-clause-bounded : goal.returns-then-within_limits-clause-bounded
+returns-then-within_limits-clause-bounded c = bounded _ _ _ (sym c.within_limits.ensures ∙ c.if-within_limits.true)
+
+pub returns-else-within_limits-clause-found : goal.returns-else-within_limits-clause-found
 unfolding header_at on_front bytes
-returns-else-within_limits c =
-    record {
-      found = rw (← c.fixed_at.ensures.read, c.in-Behind.is, ← c.numeral_at.ensures.read, c.in-Number.is)
-          (rw (← c.numeral_at-2.ensures.read, c.in-Number-numeral_at.is, ← c.numeral_at-3.ensures.read, c.in-Number-numeral_at-2.is)
-          (search cases depth 16));
-      bounded = tt;
-    }
+returns-else-within_limits-clause-found c =
+    rw (← c.in_ok-at.ensures.read, ← c.in_ok-variables.ensures.read, ← c.in_ok-temporaries.ensures.read, ← c.in_ok-orders.ensures.read)
+    (search cases depth 16)

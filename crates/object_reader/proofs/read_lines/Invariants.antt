@@ -1,9 +1,6 @@
-use Prim.Native.Nat.{◌-◌}
+use mathlib.Core.Path.{◌≡◌}
 use Rattle.object_reader.proofs.Scanning.{Filling}
 use Rattle.object_reader.proofs.read_lines.Given as goal
 
-abbrev pub invariant-loop-scan : goal.invariant-loop-scan
-invariant-loop-scan l = Filling l.words l.n l.s l.at l.initial.orders l.orders l.scan
-
-abbrev pub decreases-loop-scan : goal.decreases-loop-scan
-decreases-loop-scan l = l.n - l.scan.count
+abbrev pub invariant-loop-place : goal.invariant-loop-place
+invariant-loop-place l = (l.scan.count ≡ l.place) × Filling l.words l.n l.s l.at l.initial.orders l.orders l.scan

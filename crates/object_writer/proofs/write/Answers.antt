@@ -1,6 +1,5 @@
-use mathlib.Core.Path.{refl, ap, ◌∙◌}
+use mathlib.Core.Path.{ap, ◌∙◌}
 use native.Mathlib.Omega.{arith}
-use Rattle.base.specs.Text.{bytes}
 use Rattle.text.specs.Internal.{put_all}
 use Rattle.text.proofs.Writing.{write_short, write_whole}
 use Rattle.order.specs.Memory.{orders_in}
@@ -12,20 +11,12 @@ pub returns-then-orders : goal.returns-then-orders
 returns-then-orders c =
     record { replied = λ few. absurd (omega (arith, few, c.if-orders.true)); filled = λ few. absurd (omega (arith, few, c.if-orders.true)) }
 
-pub text_length-total-requires : goal.text_length-total-requires
-unfolding bytes
-text_length-total-requires c = (omega (arith, c.if-orders.false), refl)
-
 pub returns-then-buffer-total : goal.returns-then-buffer-total
 returns-then-buffer-total c =
     let a = c.args in
     let all = text a.v a.t (orders_in a.orders.now) in
     let e = write_short 12 all a.buffer.now _ c.text_length-total.ensures (omega (arith, c.if-buffer-total.true)) in
     record { replied = λ few. e.0; filled = λ few. e.1 }
-
-pub put_records-requires : goal.put_records-requires
-unfolding bytes
-put_records-requires c = refl
 
 pub returns : goal.returns
 returns c =

@@ -10,5 +10,5 @@ returns c =
     c.put_byte.ensures
     ∙ ap (put_byte 10)
     (c.put_decimal-j.ensures
-    ∙ ap₂ (λ x p. put_all (decimal x) p) c.operand_of.ensures (rw (← c.number_of.ensures) c.put_heading-i.ensures))
+    ∙ ap₂ (λ x p. put_all (decimal x) p) c.operand_of.ensures (rw (← c.number_of.ensures, ← c.heading.ensures.row) c.put_fixed-i.ensures))
     ∙ put_parts o _

@@ -1,7 +1,8 @@
-use mathlib.Core.Path.{sym}
+use native.Mathlib.Omega.{arith}
 use Rattle.skimp_state.proofs.Bytes.{number_four}
 use Rattle.skimp_state.proofs.load_word.Goals as goal
 
 pub returns : goal.returns
 returns c =
-    rw (c.byte_at-a.ensures, c.byte_at-b.ensures, c.byte_at-c.ensures, c.byte_at-d.ensures) (sym (number_four _ _))
+    let four = number_four c.args.s.now c.args.i in
+    omega (arith, four, c.from_be_bytes.ensures, c.at.ensures, c.at-2.ensures, c.at-3.ensures, c.at-4.ensures)

@@ -1,4 +1,4 @@
-use Prim.Native.Nat.{◌-◌, ◌≤◌}
+use Prim.Native.Nat.{◌≤◌}
 use mathlib.Core.Path.{◌≡◌}
 use mathlib.Core.List.{◌++◌}
 use lib.ListN.{length, drop}
@@ -7,7 +7,4 @@ use Rattle.skimp_state.specs.State.{words_at}
 use Rattle.skimp_state.proofs.load_words.Given as goal
 
 abbrev pub invariant-loop-i : goal.invariant-loop-i
-invariant-loop-i l = (l.words ≡ words_at l.i 20 l.s ++ drop l.i l.initial.words) × (l.i ≤ length l.initial.words) × (length l.words ≡ length l.initial.words) × (length l.initial.words ≤ most_words)
-
-abbrev pub decreases-loop-i : goal.decreases-loop-i
-decreases-loop-i l = length l.words - l.i
+invariant-loop-i l = (l.words ≡ words_at l.i 20 l.s ++ drop l.i l.initial.words) × (length l.words ≡ length l.initial.words) × (length l.initial.words ≤ most_words)
