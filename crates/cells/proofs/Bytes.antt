@@ -1,42 +1,42 @@
 -- The turns of the loop over bytes, and what it answers. The statements from place i on, with `held` cells in the array, are
 -- those from place `at` on.
 use Prim.Native.Nat.{ℕ, suc, ◌+◌, ◌-◌, ◌<◌, ◌≤◌}
-use mathlib.Core.Path.{◌≡◌, refl, ap, ◌∙◌}
-use mathlib.Core.Bool.{true, false}
-use mathlib.Core.List.{List, []}
+use mathlib.Core.Path.{◌≡◌, refl, sym, ap, ◌∙◌}
+use mathlib.Core.List.{List, [], ◌∷◌}
+use Rattle.std.proofs.Common.{not, Some, None, Ok, Err}
+use Rattle.std.specs.List.{position, position_from}
+use Rattle.std.proofs.lemmas.Iterator.Adapters.{position_from-zero}
 use native.Mathlib.Omega.{arith}
 use native.Mathlib.Numerals.{add-one}
 use lib.ListN.{length, get_or, take, drop, drop_of_length-le}
 use Rattle.base.specs.Choice.{pick}
+use Rattle.base.proofs.Cases.{by_test}
 use Rattle.base.proofs.Lists.{drop_more}
 use Rattle.source.specs.declared.Mode.{Mode}
 use Rattle.source.specs.declared.Mode.TheVariants.{Plain}
+use Rattle.source.specs.declared.Refusal.{Refusal}
 use Rattle.source.specs.Limits.{most_cells}
 use Rattle.source.specs.Cells.{turn, ended, ◌then◌, on_turn, source_end, statements_from}
-use Rattle.source.specs.Source.{offset, all_allowed, is_allowed, not_allowed}
-use Rattle.cells_byte.specs.declared.Ending.TheVariants.{Whole, Nothing, Cut as CutEnd}
-use Rattle.cells.specs.declared.Step.TheVariants.{On, Ends, Over}
-use Rattle.cells.specs.declared.Reading.TheVariants.{Statement, Ended, Cut}
-use Rattle.cells.specs.Answers.{stopped, offset_behind}
+use Rattle.source.specs.Source.{is_allowed, not_allowed}
+use Rattle.cells_byte.specs.declared.Ended.TheVariants.{Whole, Nothing}
+use Rattle.cells.specs.Answers.{offset_of, stopped, offset_behind}
 use Rattle.cells_byte.specs.Internal.{ending_of}
-use Rattle.cells.specs.Internal.{last_held, Stepped, Gathered}
+use Rattle.cells.specs.Internal.{last_held, Stepped, up_to, Gathered}
 use Rattle.cells_byte.proofs.Changes.{EndFits, end_fits}
 use Rattle.cells.proofs.Steps.{ends_as}
 
 -- ---- bytes that are not allowed
 
-module _ (s : List ℕ) (i : ℕ) where
-  pub allowed_turn : i < length s → is_allowed (get_or s i 0) ≡ true → not_allowed (i + 1) (drop (i + 1) s) ≡ not_allowed i (drop i s)
-  unfolding not_allowed pick
-  allowed_turn h e = let next : i + 1 ≡ suc i = omega arith in rw (drop_more s i 0 h, e, next)
+offset_from : (i : ℕ) (s : List ℕ) → position_from (λ b. not (is_allowed b)) i s ≡ offset_of (not_allowed i s)
+unfolding not_allowed pick
+offset_from i [] = refl
+offset_from i (b ∷ bs) =
+    by_test (is_allowed b)
+    (λ e. let next : i + 1 ≡ suc i = omega arith in rw (e, next) (offset_from (suc i) bs))
+    (λ e. rw e refl)
 
-  pub not_allowed_here : i < length s → is_allowed (get_or s i 0) ≡ false → offset i ≡ not_allowed i (drop i s)
-  unfolding not_allowed pick
-  not_allowed_here h e = rw (drop_more s i 0 h, e)
-
-  pub all_allowed_law : length s ≤ i → all_allowed ≡ not_allowed i (drop i s)
-  unfolding not_allowed
-  all_allowed_law h = rw (drop_of_length-le s h)
+pub first_offset : (s : List ℕ) → position (λ b. not (is_allowed b)) s ≡ offset_of (not_allowed 0 s)
+first_offset s = position_from-zero (λ b. not (is_allowed b)) s ∙ offset_from 0 s
 
 -- ---- statements
 
@@ -64,7 +64,7 @@ module _ (s : List ℕ) (at : ℕ) (cells : List ℕ) (m : Mode) (held i : ℕ) 
   stops h = (rw (drop_more s i 0 h) at reads.behind)
 
   pub reads_turn : (cells' : List ℕ) (n : Mode) (k : ℕ) → i < length s → length cells' ≡ length cells
-      → Stepped cells' held (On n k) (turn m (get_or s i 0) (take held cells)) → Reads s at cells' n k (i + 1)
+      → Stepped cells' held (Ok (Some (n, k))) (turn m (get_or s i 0) (take held cells)) → Reads s at cells' n k (i + 1)
   unfolding on_turn
   reads_turn cells' n k h same_length step =
       let room : most_cells ≤ length cells = reads.room in
@@ -83,8 +83,8 @@ module _ (s : List ℕ) (at : ℕ) (cells : List ℕ) (m : Mode) (held i : ℕ) 
         inside = omega arith;
       }
 
-  pub statement_ends : (cells' : List ℕ) → i < length s → Stepped cells' held Ends (turn m (get_or s i 0) (take held cells))
-      → Gathered s at cells' held (Statement (i + 1))
+  pub statement_ends : (cells' : List ℕ) → i < length s → Stepped cells' held (Ok None) (turn m (get_or s i 0) (take held cells))
+      → Gathered s at cells' (up_to held (i + 1))
   unfolding on_turn
   statement_ends cells' h step =
       let on : at + held ≤ i = reads.on in
@@ -101,11 +101,12 @@ module _ (s : List ℕ) (at : ℕ) (cells : List ℕ) (m : Mode) (held i : ℕ) 
             };
       }
 
-  pub statement_over : (cells' : List ℕ) → i < length s → Stepped cells' held Over (turn m (get_or s i 0) (take held cells))
-      → Gathered s at cells' held (Cut 4)
+  pub statement_over : (cells' : List ℕ) (k : Refusal) → i < length s → Stepped cells' held (Err k) (turn m (get_or s i 0) (take held cells))
+      → Gathered s at cells' (Err k)
   unfolding on_turn
-  statement_over cells' h step =
-      record { same = ap (λ t. on_turn t (λ n cs. statements_from n cs (drop (i + 1) s))) step.same ∙ here h; moved = tt }
+  statement_over cells' k h step =
+      let same = ap (λ t. on_turn t (λ n cs. statements_from n cs (drop (i + 1) s))) step.same ∙ here h in
+      record { same = rw step.bounded same; moved = tt }
 
   -- ---- the end of the source
 
@@ -122,19 +123,20 @@ module _ (s : List ℕ) (at : ℕ) (cells : List ℕ) (m : Mode) (held i : ℕ) 
     unfolding offset_behind
     no_byte = (rw (drop_of_length-le s over) at reads.behind)
 
-    pub last_statement : ending_of m held (last_held held cells) ≡ Whole → Gathered s at cells held (Statement i)
+    pub last_statement : ending_of m held (last_held held cells) ≡ Ok Whole → Gathered s at cells (up_to held (length s))
     last_statement told =
-        let fits : EndFits held Whole = (rw told at (end_fits held (last_held held cells) m)) in
+        let fits : EndFits held (Ok Whole) = (rw told at (end_fits held (last_held held cells) m)) in
         let some : 0 < held = fits.0 in
         let on : at + held ≤ i = reads.on in
         let inside : i ≤ length s + (at - length s) = reads.inside in
+        let all : i ≡ length s = omega arith in
         record {
-          same = ap (◌then◌ (take held cells)) nothing_left ∙ ends_as cells held reads.room reads.few m Whole told ∙ at_last;
-          moved = record { behind = no_byte; forward = omega arith; inside = omega arith; some = some; short = on; few = fits.1 };
+          same = rw (← all) (ap (◌then◌ (take held cells)) nothing_left ∙ ends_as cells held reads.room reads.few m (Ok Whole) told ∙ at_last);
+          moved = record { behind = sym all ∙ no_byte; forward = omega arith; inside = omega arith; some = some; short = omega arith; few = fits.1 };
         }
 
-    pub no_statement : ending_of m held (last_held held cells) ≡ Nothing → Gathered s at cells held Ended
-    no_statement told = record { same = ends_as cells held reads.room reads.few m Nothing told ∙ at_last; moved = tt }
+    pub no_statement : ending_of m held (last_held held cells) ≡ Ok Nothing → Gathered s at cells (Ok None)
+    no_statement told = record { same = ends_as cells held reads.room reads.few m (Ok Nothing) told ∙ at_last; moved = tt }
 
-    pub cut_statement : (n : ℕ) → ending_of m held (last_held held cells) ≡ CutEnd n → Gathered s at cells held (Cut n)
-    cut_statement n told = record { same = ends_as cells held reads.room reads.few m (CutEnd n) told ∙ at_last; moved = tt }
+    pub cut_statement : (k : Refusal) → ending_of m held (last_held held cells) ≡ Err k → Gathered s at cells (Err k)
+    cut_statement k told = record { same = ends_as cells held reads.room reads.few m (Err k) told ∙ at_last; moved = tt }

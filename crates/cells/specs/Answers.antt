@@ -1,43 +1,29 @@
 -- What the answers of the public functions stand for. Comments in quotes are document 01's words.
-use Rattle.std.specs.Prelude.{ℕ, suc, ◌+◌, ◌<◌, ◌≤◌, ◌≡◌, List, [], ◌∷◌, length, drop}
+use Rattle.std.specs.Prelude.{ℕ, suc, ◌+◌, ◌<◌, ◌≤◌, ◌≡◌, List, [], ◌∷◌, length, drop, Option, Some, None, Result, Ok, Err}
 use Rattle.source.specs.declared.Mode.{Mode}
 use Rattle.source.specs.declared.Mode.TheVariants.{Plain}
+use Rattle.source.specs.declared.Refusal.{Refusal}
 use Rattle.source.specs.Limits.{most_cells}
+use Rattle.source.specs.Refusals.{refusal_number}
 use Rattle.source.specs.Cells.{Turn, goes_on, ends, over, turn, Statements, ended, cut, ◌then◌, statements_from}
 use Rattle.source.specs.Source.{NotAllowed, offset, all_allowed}
 use Rattle.source.specs.Memory.{held}
-use Rattle.cells.specs.declared.Found.{Found}
-use Rattle.cells.specs.declared.Found.TheVariants.{At, Missing}
 use Rattle.cells.specs.declared.Next.{Next}
-use Rattle.cells.specs.declared.Reading.{Reading}
-use Rattle.cells.specs.declared.Reading.TheVariants.{Statement, Ended, Cut}
 
 -- ---- bytes that are not allowed
 
--- document 01's number and place of a refusal, or that every byte is allowed
-pub data Bytes : Type 0 where
-  refused : ℕ → ℕ → Bytes
-  allowed : Bytes
-
--- 2 "byte not allowed, anywhere"; the place is "its offset"
-abbrev pub found : Found → Bytes
-found (At i) = refused 2 i
-found Missing = allowed
-
-abbrev pub found_of : NotAllowed → Bytes
-found_of (offset i) = refused 2 i
-found_of all_allowed = allowed
+-- "its offset", if there is such a byte
+abbrev pub offset_of : NotAllowed → Option ℕ
+offset_of (offset i) = Some i
+offset_of all_allowed = None
 
 -- ---- the next statement
 
--- the statements of the source s, where the next holds these cells; where there is none, or it is refused, the cells are free
-abbrev pub following : List ℕ → List ℕ → Reading → Statements
-following s cells (Statement q) = cells then statements_from Plain [] (drop q s)
-following s cells Ended = ended
-following s cells (Cut n) = cut n
-
-abbrev pub unrolled : List ℕ → Next → Statements
-unrolled s r = following s (held r.statement) r.reading
+-- the statements of the source s, where the next one is the answer; there is none; or it is refused
+abbrev pub unrolled : List ℕ → Result (Option Next) Refusal → Statements
+unrolled s (Ok (Some n)) = held n.statement then statements_from Plain [] (drop n.behind s)
+unrolled s (Ok None) = ended
+unrolled s (Err k) = cut (refusal_number k)
 
 -- where a statement is read no further behind a byte; i is the offset of the byte behind that one
 abbrev pub stopped : Turn → ℕ → (Mode → List ℕ → ℕ) → ℕ
@@ -61,10 +47,7 @@ pub record Within (s : List ℕ) (at after cells : ℕ) : Type 0 where
   pub short : at + cells ≤ after
   pub few : cells < most_cells
 
-abbrev pub MovedTo : List ℕ → ℕ → ℕ → Reading → Type 0
-MovedTo s at cells (Statement q) = Within s at q cells
-MovedTo s at cells Ended = Unit {0}
-MovedTo s at cells (Cut n) = Unit {0}
-
-abbrev pub Moved : List ℕ → ℕ → Next → Type 0
-Moved s at r = MovedTo s at r.statement.length r.reading
+abbrev pub Moved : List ℕ → ℕ → Result (Option Next) Refusal → Type 0
+Moved s at (Ok (Some n)) = Within s at n.behind n.statement.length
+Moved s at (Ok None) = Unit {0}
+Moved s at (Err k) = Unit {0}

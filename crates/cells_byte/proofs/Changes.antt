@@ -102,11 +102,11 @@ Fits held (Ok (Keep c m)) = held < most_cells
 Fits held (Ok (Skip m)) = Unit {0}
 Fits held (Ok Shorten) = 0 < held
 Fits held (Ok End) = (0 < held) × (held < most_cells)
-Fits held (Err k) = Unit {0}
+Fits held (Err k) = k ≡ Cells
 
 module _ (held : ℕ) where
   kept_fits : (c : ℕ) (m : Mode) → Fits held (kept_of c m held)
-  kept_fits c m = either_part (Fits held) (ltb held most_cells) (Ok (Keep c m)) (Err Cells) (λ e. ltb-true held most_cells e) (λ e. tt)
+  kept_fits c m = either_part (Fits held) (ltb held most_cells) (Ok (Keep c m)) (Err Cells) (λ e. ltb-true held most_cells e) (λ e. refl)
 
   newline_fits : (last : ℕ) → Fits held (newline_of held last)
   newline_fits last =
@@ -115,7 +115,7 @@ module _ (held : ℕ) where
       either_part (λ ch. Fits held (Ok ch)) (eqb last 99) Shorten End
       (λ e. omega (arith, eqb-false held 0 z))
       (λ e. (omega (arith, eqb-false held 0 z), ltb-true held most_cells l)))
-      (λ e. tt))
+      (λ e. refl))
 
   exclamation_fits : Fits held (exclamation_of held)
   exclamation_fits =

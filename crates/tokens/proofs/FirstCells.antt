@@ -3,30 +3,41 @@ use Prim.Native.Nat.{ℕ, ◌+◌, ◌-◌, ◌*◌, ◌<◌, ◌≤◌}
 use mathlib.Core.Path.{◌≡◌, refl, ap, ◌∙◌}
 use mathlib.Core.Bool.{true, false}
 use mathlib.Core.List.{List, ◌∷◌}
+use Rattle.std.proofs.Common.{Result, Ok, Err}
 use native.Mathlib.Omega.{arith}
-use borrow.Author.Tests.{leb-true, eq-eqb, ne_eqb}
-use lib.ListN.{length, get_or, drop}
+use borrow.Author.Tests.{leb-true, le-leb, eq-eqb, ne_eqb}
+use lib.Dec.{leb}
+use lib.ListN.{length, get_or, take, drop}
 use Rattle.base.specs.Choice.{pick}
-use Rattle.base.proofs.Cases.{both_yes}
+use Rattle.base.proofs.Cases.{by_test}
 use Rattle.base.proofs.Lists.{drop_more}
 use Rattle.source.specs.Cells.{is_capital, is_small}
-use Rattle.source.specs.Tokens.{One, is_digit, run, past_run, decimal_value, name_at, keyword_at, decimal_at, text_at, constant_of, sign_at, lexeme}
+use Rattle.source.specs.Tokens.{One, is_digit, in_name, run, past_run, decimal_value, name_at, keyword_at, decimal_at, text_at, constant_of, sign_at, lexeme}
+use Rattle.source.specs.declared.Refusal.{Refusal}
 use Rattle.tokens_fixed.specs.declared.One.{One as Answer}
-use Rattle.tokens_fixed.specs.declared.One.TheVariants.{Token as TokenAt, Name, Wrong}
+use Rattle.tokens_fixed.specs.declared.One.TheVariants.{Token as TokenAt, Name}
 use Rattle.tokens_fixed.specs.Answers.{Is}
 use Rattle.tokens_constant.specs.Answers.{Constant, decimal_from}
-use Rattle.tokens.specs.Internal.{RunEnds}
 use Rattle.tokens.proofs.Names.{name_is}
 
-pub digit_from : (c : ℕ) → is_digit c ≡ true → 48 ≤ c
-digit_from c e = leb-true 48 c (both_yes _ _ e).0
+-- a range of characters, and what is outside it
+between : (low high c : ℕ) → low ≤ c → c ≤ high → pick (leb low c) (leb c high) false ≡ true
+unfolding pick
+between low high c from to = rw (le-leb low c from, le-leb c high to)
+
+not_between : (low high c : ℕ) → (low ≤ c → c ≤ high → ⊥) → pick (leb low c) (leb c high) false ≡ false
+unfolding pick
+not_between low high c out =
+    by_test (leb low c)
+    (λ e. by_test (leb c high) (λ f. absurd (out (leb-true low c e) (leb-true c high f))) (λ f. rw (e, f)))
+    (λ e. rw e)
 
 -- a constant that is read from its second cell on
-constant_is : (cells : List ℕ) (at : ℕ) (r : Answer) (o : One) → Constant cells (at + 1) r o → Is cells at r o
-constant_is cells at (TokenAt t q) o k =
+constant_is : (cells : List ℕ) (at : ℕ) (r : Result Answer Refusal) (o : One) → Constant cells (at + 1) r o → Is cells at r o
+constant_is cells at (Ok (TokenAt t q)) o k =
     let on : at + 1 ≤ q = k.sound.0 in record { same = k.same; sound = (omega arith, k.sound.1) }
-constant_is cells at (Name q) o k = absurd k.sound
-constant_is cells at (Wrong n) o k = record { same = k.same; sound = tt }
+constant_is cells at (Ok (Name q)) o k = absurd k.sound
+constant_is cells at (Err n) o k = record { same = k.same; sound = tt }
 
 run_digit : (c : ℕ) (l : List ℕ) → is_digit c ≡ true → run is_digit (c ∷ l) ≡ c ∷ run is_digit l
 unfolding run pick
@@ -68,35 +79,46 @@ module _ (c : ℕ) (l : List ℕ) where
         unfolding lexeme pick
         other_one e = rw (s, n, d, ne_eqb c 39 e) refl
 
-is_as : (cells : List ℕ) (at : ℕ) (r : Answer) (o p : One) → o ≡ p → Is cells at r o → Is cells at r p
+is_as : (cells : List ℕ) (at : ℕ) (r : Result Answer Refusal) (o p : One) → o ≡ p → Is cells at r o → Is cells at r p
 is_as cells at r o p e is = rw e at is
 
 module _ (cells : List ℕ) (at : ℕ) (h : at < length cells) where
-  pub keyword_here : (r : Answer) → is_small (get_or cells at 0) ≡ true → Is cells at r (keyword_at (drop at cells))
-      → Is cells at r (lexeme (get_or cells at 0) (drop (at + 1) cells))
-  keyword_here r e is = is_as cells at r _ _ (ap keyword_at (drop_more cells at 0 h) ∙ small_one (get_or cells at 0) (drop (at + 1) cells) e) is
+  abbrev first : ℕ
+  first = get_or cells at 0
 
-  module _ (s : is_small (get_or cells at 0) ≡ false) where
-    pub name_here : (end : ℕ) → is_capital (get_or cells at 0) ≡ true → RunEnds cells (at + 1) end
-        → Is cells at (Name end) (lexeme (get_or cells at 0) (drop (at + 1) cells))
-    name_here end e ends =
-        is_as cells at (Name end) _ _ (capital_one (get_or cells at 0) (drop (at + 1) cells) s e) (name_is cells at end h e ends)
+  abbrev rest : List ℕ
+  rest = drop (at + 1) cells
 
-    module _ (n : is_capital (get_or cells at 0) ≡ false) where
-      pub decimal_here : (r : Answer) → is_digit (get_or cells at 0) ≡ true
-          → Constant cells (at + 1) r (decimal_from (get_or cells at 0 - 48) (drop (at + 1) cells))
-          → Is cells at r (lexeme (get_or cells at 0) (drop (at + 1) cells))
-      decimal_here r e k =
-          is_as cells at r _ _
-          (first_digit (get_or cells at 0) (drop (at + 1) cells) e ∙ digit_one (get_or cells at 0) (drop (at + 1) cells) s n e)
-          (constant_is cells at r _ k)
+  pub keyword_here : (r : Result Answer Refusal) → 97 ≤ first → first ≤ 122 → Is cells at r (keyword_at (drop at cells)) → Is cells at r (lexeme first rest)
+  keyword_here r low high is =
+      is_as cells at r _ _ (ap keyword_at (drop_more cells at 0 h) ∙ small_one first rest (between 97 122 first low high)) is
 
-      module _ (d : is_digit (get_or cells at 0) ≡ false) where
-        pub quoted_here : (r : Answer) → get_or cells at 0 ≡ 39 → Constant cells (at + 1) r (constant_of (text_at (drop (at + 1) cells)))
-            → Is cells at r (lexeme (get_or cells at 0) (drop (at + 1) cells))
-        quoted_here r e k =
-            is_as cells at r _ _ (quote_one (get_or cells at 0) (drop (at + 1) cells) s n d e) (constant_is cells at r _ k)
+  pub name_here : (n : ℕ) → 65 ≤ first → first ≤ 90 → n ≡ length (run in_name (take (length cells - (at + 1)) rest)) → Is cells at (Ok (Name (at + 1 + n))) (lexeme first rest)
+  name_here n low high count =
+      let capital = between 65 90 first low high in
+      is_as cells at (Ok (Name (at + 1 + n))) _ _
+      (capital_one first rest (not_between 97 122 first (λ a b. omega arith)) capital)
+      (name_is cells at n h capital count)
 
-        pub sign_here : (r : Answer) → (get_or cells at 0 ≡ 39 → ⊥) → Is cells at r (sign_at (get_or cells at 0) (drop (at + 1) cells))
-            → Is cells at r (lexeme (get_or cells at 0) (drop (at + 1) cells))
-        sign_here r e is = is_as cells at r _ _ (other_one (get_or cells at 0) (drop (at + 1) cells) s n d e) is
+  pub decimal_here : (r : Result Answer Refusal) → 48 ≤ first → first ≤ 57 → Constant cells (at + 1) r (decimal_from (first - 48) rest)
+      → Is cells at r (lexeme first rest)
+  decimal_here r low high k =
+      let digit = between 48 57 first low high in
+      is_as cells at r _ _
+      (first_digit first rest digit
+      ∙ digit_one first rest (not_between 97 122 first (λ a b. omega arith)) (not_between 65 90 first (λ a b. omega arith)) digit)
+      (constant_is cells at r _ k)
+
+  pub quoted_here : (r : Result Answer Refusal) → first ≡ 39 → Constant cells (at + 1) r (constant_of (text_at rest)) → Is cells at r (lexeme first rest)
+  quoted_here r e k =
+      is_as cells at r _ _
+      (quote_one first rest (not_between 97 122 first (λ a b. omega arith)) (not_between 65 90 first (λ a b. omega arith))
+      (not_between 48 57 first (λ a b. omega arith)) e)
+      (constant_is cells at r _ k)
+
+  pub sign_here : (r : Result Answer Refusal) → (97 ≤ first → first ≤ 122 → ⊥) → (65 ≤ first → first ≤ 90 → ⊥) → (48 ≤ first → first ≤ 57 → ⊥)
+      → (first ≡ 39 → ⊥) → Is cells at r (sign_at first rest) → Is cells at r (lexeme first rest)
+  sign_here r small capital digit quote is =
+      is_as cells at r _ _
+      (other_one first rest (not_between 97 122 first small) (not_between 65 90 first capital) (not_between 48 57 first digit) quote)
+      is

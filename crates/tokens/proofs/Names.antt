@@ -1,83 +1,68 @@
--- The turns of the loop over the letters and digits of a name, and the name itself.
+-- A name: a letter, and the letters and digits after it.
 use Prim.Native.Nat.{ℕ, suc, ◌+◌, ◌-◌, ◌<◌, ◌≤◌}
 use mathlib.Core.Path.{◌≡◌, refl, sym, ap, ◌∙◌}
-use mathlib.Core.Bool.{true, false}
-use mathlib.Core.List.{List, [], ◌∷◌, ◌++◌, append-nil, append_assoc}
+use mathlib.Core.Bool.{true}
+use mathlib.Core.List.{List, [], ◌∷◌}
 use native.Mathlib.Omega.{arith}
-use lib.ListN.{length, get_or, take, drop, drop_of_length-le, length-drop}
-use lib.Seq.{get_or-drop}
+use lib.ListN.{length, get_or, take, drop, length-drop}
+use Rattle.std.proofs.Common.{Ok, drop-drop}
+use Rattle.std.proofs.Math.Seq.{take-length}
+use Rattle.std.specs.List.{prefix_len}
 use Rattle.base.specs.Choice.{pick}
-use Rattle.base.proofs.Lists.{drop_more, take_more}
+use Rattle.base.proofs.Cases.{by_test}
+use Rattle.base.proofs.Lists.{drop_more}
 use Rattle.source.specs.Cells.{is_capital}
 use Rattle.source.specs.Tokens.{in_name, run, past_run, name_at}
 use Rattle.tokens_fixed.specs.declared.One.TheVariants.{Name}
 use Rattle.tokens_fixed.specs.Answers.{Is}
-use Rattle.tokens.specs.Internal.{RunEnds}
 
--- what holds before each cell: those from `at` on are in the name
-pub record Runs (cells : List ℕ) (at i : ℕ) : Type 0 where
-  pub taken : take (i - at) (drop at cells) ++ run in_name (drop i cells) ≡ run in_name (drop at cells)
-  pub behind : past_run in_name (drop i cells) ≡ past_run in_name (drop at cells)
-  pub forward : at ≤ i
-  pub inside : at ≤ length cells → i ≤ length cells
+one_plus : (n : ℕ) → 1 + n ≡ suc n
+one_plus n = omega arith
 
-pub runs_first : (cells : List ℕ) (at : ℕ) → Runs cells at at
-runs_first cells at =
-    let none : at - at ≡ 0 = omega arith in
-    record { taken = rw none refl; behind = refl; forward = omega arith; inside = λ h. h }
+pub name_counted : (cells : List ℕ) → length (take (prefix_len in_name cells) cells) ≡ length (run in_name cells)
+unfolding run pick
+name_counted [] = refl
+name_counted (c ∷ l) = by_test (in_name c) (λ e. rw (e, one_plus (prefix_len in_name l)) (ap suc (name_counted l))) (λ e. rw e refl)
 
-module _ (cells : List ℕ) (at i : ℕ) (runs : Runs cells at i) where
-  module _ (h : i < length cells) where
-    pub runs_turn : in_name (get_or cells i 0) ≡ true → Runs cells at (i + 1)
-    unfolding run past_run pick
-    runs_turn e =
-        let from : at ≤ i = runs.forward in
-        let one_more_law : i + 1 - at ≡ (i - at) + 1 = omega arith in
-        let far : i - at < length (drop at cells) = rw (length-drop at cells) (omega arith) in
-        let here : at + (i - at) ≡ i = omega arith in
-        let cell : get_or (drop at cells) (i - at) 0 ≡ get_or cells i 0 = get_or-drop at cells (i - at) 0 ∙ ap (λ n. get_or cells n 0) here in
-        let more : take (i + 1 - at) (drop at cells) ≡ take (i - at) (drop at cells) ++ get_or cells i 0 ∷ [] =
-        rw one_more_law (take_more (drop at cells) (i - at) 0 far ∙ ap (λ c. take (i - at) (drop at cells) ++ c ∷ []) cell) in
-        record {
-          taken =
-              rw more
-              (append_assoc (take (i - at) (drop at cells)) (get_or cells i 0 ∷ []) (run in_name (drop (i + 1) cells))
-              ∙ (rw (drop_more cells i 0 h, e) at runs.taken));
-          behind = (rw (drop_more cells i 0 h, e) at runs.behind);
-          forward = omega arith;
-          inside = λ g. omega arith;
-        }
+run_taken : (cells : List ℕ) → take (length (run in_name cells)) cells ≡ run in_name cells
+unfolding run pick
+run_taken [] = refl
+run_taken (c ∷ l) = by_test (in_name c) (λ e. rw e (ap (λ r. c ∷ r) (run_taken l))) (λ e. rw e refl)
 
-    pub runs_stop : in_name (get_or cells i 0) ≡ false → RunEnds cells at i
-    unfolding run past_run pick
-    runs_stop e =
-        let cut : take (i - at) (drop at cells) ++ [] ≡ run in_name (drop at cells) = (rw (drop_more cells i 0 h, e) at runs.taken) in
-        record {
-          taken = sym (append-nil (take (i - at) (drop at cells))) ∙ cut;
-          behind = rw (drop_more cells i 0 h) ((rw (drop_more cells i 0 h, e) at runs.behind));
-          forward = runs.forward;
-          inside = runs.inside;
-        }
-
-  pub runs_over : length cells ≤ i → RunEnds cells at i
-  unfolding run past_run
-  runs_over h =
-      let cut : take (i - at) (drop at cells) ++ [] ≡ run in_name (drop at cells) = (rw (drop_of_length-le cells h) at runs.taken) in
-      record {
-        taken = sym (append-nil (take (i - at) (drop at cells))) ∙ cut;
-        behind = rw (drop_of_length-le cells h) ((rw (drop_of_length-le cells h) at runs.behind));
-        forward = runs.forward;
-        inside = runs.inside;
-      }
-
--- a name is a letter and the letters and digits after it
-pub name_is : (cells : List ℕ) (at end : ℕ) → at < length cells → is_capital (get_or cells at 0) ≡ true → RunEnds cells (at + 1) end
-    → Is cells at (Name end) (name_at (get_or cells at 0 ∷ drop (at + 1) cells))
+run_passed : (cells : List ℕ) → drop (length (run in_name cells)) cells ≡ past_run in_name cells
 unfolding run past_run pick
-name_is cells at end h e ends =
-    let from : at + 1 ≤ end = ends.forward in
-    let length_of : end - at ≡ suc (end - (at + 1)) = omega arith in
+run_passed [] = refl
+run_passed (c ∷ l) = by_test (in_name c) (λ e. rw e (run_passed l)) (λ e. rw e refl)
+
+run_inside : (cells : List ℕ) → length (run in_name cells) ≤ length cells
+unfolding run pick
+run_inside [] = omega arith
+run_inside (c ∷ l) = by_test (in_name c) (λ e. let more = run_inside l in rw e (omega (arith, more))) (λ e. rw e (omega arith))
+
+-- a slice from a place on
+rest_of : (cells : List ℕ) (k : ℕ) → take (length cells - k) (drop k cells) ≡ drop k cells
+rest_of cells k = rw (← length-drop k cells) (take-length (drop k cells))
+
+pub name_is : (cells : List ℕ) (at n : ℕ) → at < length cells → is_capital (get_or cells at 0) ≡ true
+    → n ≡ length (run in_name (take (length cells - (at + 1)) (drop (at + 1) cells))) → Is cells at (Ok (Name (at + 1 + n))) (name_at (get_or cells at 0 ∷ drop (at + 1) cells))
+unfolding run past_run pick
+name_is cells at n h e told =
+    let count : n ≡ length (run in_name (drop (at + 1) cells)) = (rw (rest_of cells (at + 1)) at told) in
+    let length_of : at + 1 + n - at ≡ suc n = omega arith in
+    let taken : take n (drop (at + 1) cells) ≡ run in_name (drop (at + 1) cells) = rw count (run_taken (drop (at + 1) cells)) in
+    let behind : drop (at + 1 + n) cells ≡ past_run in_name (drop (at + 1) cells) =
+    sym (drop-drop n (at + 1) cells) ∙ (rw count (run_passed (drop (at + 1) cells))) in
+    let inside : length (run in_name (drop (at + 1) cells)) ≤ length (drop (at + 1) cells) = run_inside (drop (at + 1) cells) in
+    let size : length (drop (at + 1) cells) ≡ length cells - (at + 1) = length-drop (at + 1) cells in
     record {
-      same = rw (e, drop_more cells at 0 h, length_of, ends.taken, ends.behind) refl;
-      sound = (omega arith, ends.inside (omega arith));
+      same = rw (e, drop_more cells at 0 h, length_of, taken, behind) refl;
+      sound = (omega arith, omega arith);
     }
+
+pub name_fits : (cells : List ℕ) (at n : ℕ) → at < length cells → n ≡ length (run in_name (take (length cells - (at + 1)) (drop (at + 1) cells)))
+    → at + 1 + n ≤ length cells
+name_fits cells at n h told =
+    let inside : length (run in_name (drop (at + 1) cells)) ≤ length (drop (at + 1) cells) = run_inside (drop (at + 1) cells) in
+    let count : n ≡ length (run in_name (drop (at + 1) cells)) = (rw (rest_of cells (at + 1)) at told) in
+    let size : length (drop (at + 1) cells) ≡ length cells - (at + 1) = length-drop (at + 1) cells in
+    omega arith

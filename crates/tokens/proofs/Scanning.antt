@@ -3,6 +3,7 @@ use Prim.Native.Nat.{ℕ, zero, suc, ◌+◌, ◌-◌, ◌*◌, ◌/◌, ◌%◌
 use mathlib.Core.Path.{◌≡◌, refl, sym, ap, ap₂, ◌∙◌}
 use mathlib.Core.Bool.{true, false}
 use mathlib.Core.List.{List, [], ◌∷◌, ◌++◌, append-nil, append_assoc}
+use Rattle.std.proofs.Common.{Result, Ok, Err, MatchResult}
 use native.Mathlib.Omega.{arith}
 use native.Mathlib.Nat.{add-zero}
 use borrow.Author.Tests.{ne_eqb, ltb-true, leb-true, lt-ltb, le-leb}
@@ -12,27 +13,27 @@ use lib.Seq.{get_or-set_same, get_or-set_other}
 use Rattle.base.specs.Choice.{pick}
 use Rattle.base.proofs.Cases.{by_test, both_yes}
 use Rattle.base.proofs.Lists.{drop_more}
+use Rattle.source.specs.declared.Refusal.{Refusal}
 use Rattle.source.specs.declared.Token.{Token}
 use Rattle.source.specs.declared.Statement.{Statement}
 use Rattle.source.specs.Limits.{most_cells}
 use Rattle.source.specs.Memory.{token_kind, token_carried, lexeme_of, lexemes_from, held}
+use Rattle.source.specs.Refusals.{refusal_number}
 use Rattle.source.specs.Tokens.{Lexeme, name, token, One, one, wrong, lexeme, Lexed, lexed, refused, behind, on_one, lexemes_in, lexemes}
 use Rattle.token_number.proofs.Numbering.{token_again}
 use Rattle.tokens_fixed.specs.declared.One.{One as Answer}
-use Rattle.tokens_fixed.specs.declared.One.TheVariants.{Token as TokenAt, Name, Wrong}
+use Rattle.tokens_fixed.specs.declared.One.TheVariants.{Token as TokenAt, Name}
 use Rattle.tokens_fixed.specs.Answers.{one_in, Sound, Is}
 use Rattle.tokens.specs.declared.Stored.{Stored}
-use Rattle.tokens.specs.declared.Stored.TheVariants.{At, Wrong as Refusal}
-use Rattle.tokens.specs.declared.Lexed.{Lexed as Answered}
-use Rattle.tokens.specs.declared.Lexed.TheVariants.{Tokens, Refused, Unfit}
-use Rattle.tokens.specs.Answers.{Told, told, unfit, fit, lexed_of, Few}
-use Rattle.tokens.specs.Internal.{stored_of, Scanned}
+use Rattle.tokens.specs.declared.Failure.{Failure}
+use Rattle.tokens.specs.declared.Failure.TheVariants.{Refused}
+use Rattle.tokens.specs.Answers.{Told, told, unfit, lexed_in, fit, lexed_of}
+use Rattle.tokens.specs.Internal.{stored_of, scanned, Scanned}
 
 -- ---- what is stored is read back
 
 abbrev stored_in : List ℕ → Stored → One
-stored_in cells (At k v q) = one (lexeme_of cells k v) (drop q cells)
-stored_in cells (Refusal n) = wrong n
+stored_in cells s = one (lexeme_of cells s.kind s.value) (drop s.behind cells)
 
 token_stored : (cells : List ℕ) (t : Token) → 0 < token_kind t → lexeme_of cells (token_kind t) (token_carried t) ≡ token t
 unfolding lexeme_of pick
@@ -45,30 +46,28 @@ name_stored cells at n h =
     let high : (at * most_cells + n) / most_cells ≡ at = omega arith in
     rw (low, high)
 
-stored_in_law : (cells : List ℕ) (at : ℕ) (a : Answer) → length cells < most_cells → Sound at (length cells) a → one_in cells at a ≡ stored_in cells (stored_of at a)
+stored_in_law : (cells : List ℕ) (at : ℕ) (a : Answer) → length cells < most_cells → Sound at (length cells) a
+    → one_in cells at (Ok a) ≡ stored_in cells (stored_of at a)
 stored_in_law cells at (TokenAt t q) few s = ap (λ x. one x (drop q cells)) (sym (token_stored cells t s.1))
 stored_in_law cells at (Name q) few s =
     let on : at < q = s.0 in
     let inside : q ≤ length cells = s.1 in
     ap (λ x. one x (drop q cells)) (sym (name_stored cells at (q - at) (omega arith)))
-stored_in_law cells at (Wrong n) few s = refl
 
 -- the next token stands further on
-stored_on : (at size : ℕ) (a : Answer) (k v q : ℕ) → Sound at size a → stored_of at a ≡ At k v q → at < q
-stored_on at size (TokenAt t p) k v q s e = let same : p ≡ q = cc in let on : at < p = s.0 in omega arith
-stored_on at size (Name p) k v q s e = let same : p ≡ q = cc in let on : at < p = s.0 in omega arith
-stored_on at size (Wrong n) k v q s e = let z : ◌≡◌ {A = ℕ} 0 1 = cc in absurd (omega arith)
+stored_on : (at size : ℕ) (a : Answer) → Sound at size a → at < (stored_of at a).behind
+stored_on at size (TokenAt t q) s = s.0
+stored_on at size (Name q) s = s.0
 
 -- so fewer cells are left
-pub falls : (cells : List ℕ) (at : ℕ) (a : Answer) (o : One) (k v q : ℕ) → at < length cells → Is cells at a o → stored_of at a ≡ At k v q
-    → length cells - q < length cells - at
-falls cells at a o k v q h is e = let on : at < q = stored_on at (length cells) a k v q is.sound e in omega arith
+pub falls : (cells : List ℕ) (at : ℕ) (a : Answer) (o : One) → at < length cells → Is cells at (Ok a) o
+    → length cells - (stored_of at a).behind < length cells - at
+falls cells at a o h is = let on : at < (stored_of at a).behind = stored_on at (length cells) a is.sound in omega arith
 
 -- a name ends within the cells
-pub within : (cells : List ℕ) (at : ℕ) (a : Answer) (o : One) → length cells < most_cells → Is cells at a o → Sound at most_cells a
+pub within : (cells : List ℕ) (at : ℕ) (a : Answer) (o : One) → length cells < most_cells → Is cells at (Ok a) o → Sound at most_cells a
 within cells at (TokenAt t q) o few is = is.sound
 within cells at (Name q) o few is = let inside : q ≤ length cells = is.sound.1 in (is.sound.0, omega arith)
-within cells at (Wrong n) o few is = tt
 
 -- ---- one token more
 
@@ -132,58 +131,61 @@ no_more zero = refl
 no_more (suc k) = refl
 
 module _ (cells ks vs : List ℕ) (at n : ℕ) (few : length cells < most_cells) (scans : Scans cells ks vs at n) where
-  module _ (h : at < length cells) (a : Answer) (is : Is cells at a (lexeme (get_or cells at 0) (drop (at + 1) cells))) where
+  module _ (h : at < length cells) where
     -- the token at this place, and those behind it
-    here : lexemes_in (length cells - n) (drop at cells)
-        ≡ on_one (stored_in cells (stored_of at a)) (λ rest. lexemes_in (length cells - (n + 1)) rest)
+    here : (r : Result Answer Refusal) → Is cells at r (lexeme (get_or cells at 0) (drop (at + 1) cells))
+        → lexemes_in (length cells - n) (drop at cells) ≡ on_one (one_in cells at r) (λ rest. lexemes_in (length cells - (n + 1)) rest)
     unfolding lexemes_in
-    here =
+    here r is =
         let on : n ≤ at = scans.on in
         let left : length cells - n ≡ suc (length cells - (n + 1)) = omega arith in
-        rw (left, drop_more cells at 0 h)
-        (ap (λ o. on_one o (λ rest. lexemes_in (length cells - (n + 1)) rest))
-        (sym is.same ∙ stored_in_law cells at a few is.sound))
+        rw (left, drop_more cells at 0 h) (ap (λ o. on_one o (λ rest. lexemes_in (length cells - (n + 1)) rest)) (sym is.same))
 
-    pub scans_turn : (k v q : ℕ) → stored_of at a ≡ At k v q → Scans cells (set ks n k) (set vs n v) q (n + 1)
-    scans_turn k v q e =
+    pub scans_turn : (a : Answer) → Is cells at (Ok a) (lexeme (get_or cells at 0) (drop (at + 1) cells))
+        → Scans cells (set ks n (stored_of at a).kind) (set vs n (stored_of at a).value) (stored_of at a).behind (n + 1)
+    scans_turn a is =
         let on : n ≤ at = scans.on in
-        let further : at < q = stored_on at (length cells) a k v q is.sound e in
+        let further : at < (stored_of at a).behind = stored_on at (length cells) a is.sound in
         record {
           same = more;
-          room = rw (length-set ks n k) scans.room;
-          other = rw (length-set vs n v) scans.other;
+          room = rw (length-set ks n (stored_of at a).kind) scans.room;
+          other = rw (length-set vs n (stored_of at a).value) scans.other;
           few = omega arith;
           on = omega arith;
         }
       where
-        token_here : on_one (stored_in cells (At k v q)) (λ rest. lexemes_in (length cells - (n + 1)) rest)
-            ≡ behind (lexeme_of cells k v) (lexemes_in (length cells - (n + 1)) (drop q cells))
+        token_here : on_one (stored_in cells (stored_of at a)) (λ rest. lexemes_in (length cells - (n + 1)) rest)
+            ≡ behind (lexeme_of cells (stored_of at a).kind (stored_of at a).value) (lexemes_in (length cells - (n + 1)) (drop (stored_of at a).behind cells))
         token_here = unfold on_one in refl
 
-        more : all_behind (lexemes_from 0 (n + 1) cells (set ks n k) (set vs n v)) (lexemes_in (length cells - (n + 1)) (drop q cells)) ≡ lexemes cells
+        more : all_behind (lexemes_from 0 (n + 1) cells (set ks n (stored_of at a).kind) (set vs n (stored_of at a).value))
+            (lexemes_in (length cells - (n + 1)) (drop (stored_of at a).behind cells)) ≡ lexemes cells
         more =
             let on : n ≤ at = scans.on in
             let room : most_cells ≤ length ks = scans.room in
             let other : most_cells ≤ length vs = scans.other in
-            ap (λ xs. all_behind xs (lexemes_in (length cells - (n + 1)) (drop q cells))) (one_more_law cells ks vs n k v (omega arith) (omega arith))
-            ∙ one_behind (lexemes_from 0 n cells ks vs) (lexeme_of cells k v) (lexemes_in (length cells - (n + 1)) (drop q cells))
-            ∙ ap (all_behind (lexemes_from 0 n cells ks vs)) (sym (here ∙ ap (λ s. on_one (stored_in cells s) (λ rest. lexemes_in (length cells - (n + 1)) rest)) e ∙ token_here))
+            ap (λ xs. all_behind xs (lexemes_in (length cells - (n + 1)) (drop (stored_of at a).behind cells)))
+            (one_more_law cells ks vs n (stored_of at a).kind (stored_of at a).value (omega arith) (omega arith))
+            ∙ one_behind (lexemes_from 0 n cells ks vs) (lexeme_of cells (stored_of at a).kind (stored_of at a).value)
+            (lexemes_in (length cells - (n + 1)) (drop (stored_of at a).behind cells))
+            ∙ ap (all_behind (lexemes_from 0 n cells ks vs))
+            (sym
+            (here (Ok a) is
+            ∙ ap (λ o. on_one o (λ rest. lexemes_in (length cells - (n + 1)) rest)) (stored_in_law cells at a few is.sound)
+            ∙ token_here))
             ∙ scans.same
 
-    pub scans_wrong : (m : ℕ) → stored_of at a ≡ Refusal m → Scanned cells ks vs (Refused m)
-    scans_wrong m e = record { same = ap told (wrong_here ∙ scans.same); few = tt }
+    pub scans_wrong : (k : Refusal) → Is cells at (Err k) (lexeme (get_or cells at 0) (drop (at + 1) cells)) → Scanned cells ks vs (Err k)
+    scans_wrong k is = record { same = wrong_here ∙ scans.same; few = tt }
       where
-        refused_here : on_one (stored_in cells (Refusal m)) (λ rest. lexemes_in (length cells - (n + 1)) rest) ≡ refused m
+        refused_here : on_one (wrong (refusal_number k)) (λ rest. lexemes_in (length cells - (n + 1)) rest) ≡ refused (refusal_number k)
         refused_here = unfold on_one in refl
 
-        wrong_here : refused m ≡ all_behind (lexemes_from 0 n cells ks vs) (lexemes_in (length cells - n) (drop at cells))
-        wrong_here =
-            sym
-            (ap (all_behind (lexemes_from 0 n cells ks vs))
-            (here ∙ ap (λ s. on_one (stored_in cells s) (λ rest. lexemes_in (length cells - (n + 1)) rest)) e ∙ refused_here))
+        wrong_here : refused (refusal_number k) ≡ all_behind (lexemes_from 0 n cells ks vs) (lexemes_in (length cells - n) (drop at cells))
+        wrong_here = sym (ap (all_behind (lexemes_from 0 n cells ks vs)) (here (Err k) is ∙ refused_here))
 
-  pub scans_over : length cells ≤ at → Scanned cells ks vs (Tokens n)
-  scans_over h = record { same = ap told (sym all ∙ scans.same); few = scans.few }
+  pub scans_over : length cells ≤ at → Scanned cells ks vs (Ok n)
+  scans_over h = record { same = sym all ∙ scans.same; few = scans.few }
     where
       all : all_behind (lexemes_from 0 n cells ks vs) (lexemes_in (length cells - n) (drop at cells)) ≡ lexed (lexemes_from 0 n cells ks vs)
       all =
@@ -233,7 +235,7 @@ module _ (s : Statement) (ks vs : List ℕ) where
       (λ t. (fits s.length (length ks) (length vs) t).mark)
       (λ t. let z : ◌≡◌ {A = ℕ} 0 1 = ap case_number (rw t at e) in absurd (omega arith))
 
-pub few_of : (s : Statement) (ks vs : List ℕ) (r : Answered) → Scanned (held s) ks vs r → Few s r
-few_of s ks vs (Tokens n) scanned = scanned.few
-few_of s ks vs (Refused k) scanned = tt
-few_of s ks vs Unfit scanned = tt
+pub scan_told : (cells ks vs : List ℕ) (r : Result ℕ Refusal) (t : Result ℕ Failure) → MatchResult r (λ n. t ≡ Ok n) (λ k. t ≡ Err (Refused k))
+    → lexed_in cells t ks vs ≡ told (scanned cells ks vs r)
+scan_told cells ks vs (Ok n) t e = rw e refl
+scan_told cells ks vs (Err k) t e = rw e refl

@@ -3,6 +3,7 @@ use Prim.Native.Nat.{ℕ, zero, suc, ◌+◌, ◌-◌, ◌*◌, ◌^◌, ◌<◌
 use mathlib.Core.Path.{◌≡◌, refl, sym, ap, ◌∙◌}
 use mathlib.Core.Bool.{true, false}
 use mathlib.Core.List.{List, [], ◌∷◌}
+use Rattle.std.proofs.Common.{◌⊎◌, inl, inr, Some, None, Ok, Err}
 use native.Mathlib.Omega.{arith}
 use native.Mathlib.Nat.{le_trans, pow-suc, add-zero}
 use native.Mathlib.Numerals.{add-one}
@@ -13,27 +14,25 @@ use lib.Seq.{get_or-drop}
 use Rattle.base.specs.Choice.{pick}
 use Rattle.base.proofs.Cases.{by_less, by_test}
 use Rattle.base.proofs.Lists.{drop_more}
+use Rattle.source.specs.declared.Refusal.TheVariants.{Constant as Refused}
 use Rattle.source.specs.declared.Token.TheVariants.{Number, Quoted}
 use Rattle.source.specs.Limits.{greatest_constant}
 use Rattle.source.specs.Tokens.{One, one, wrong, token, is_digit, run, past_run, decimal_value, Text, text, unclosed, longer, text_at, packed, constant_of}
-use Rattle.tokens_fixed.specs.declared.One.TheVariants.{Token as TokenAt, Wrong}
-use Rattle.tokens_constant.specs.declared.Character.TheVariants.{Plain, Close, Missing}
+use Rattle.tokens_fixed.specs.declared.One.TheVariants.{Token as TokenAt}
+use Rattle.tokens_constant.specs.declared.Character.TheVariants.{Plain, Close}
 use Rattle.tokens_constant.specs.Answers.{Constant, decimal_from}
 use Rattle.tokens_constant.specs.Internal.{CharacterIs}
 
 -- ---- decimal constants
 
-pub digit_yes : (c : ℕ) → 48 ≤ c → c ≤ 57 → is_digit c ≡ true
+digit_yes : (c : ℕ) → (48 ≤ c) × (c ≤ 57) → is_digit c ≡ true
 unfolding pick
-digit_yes c low high = rw (le-leb 48 c low, le-leb c 57 high)
+digit_yes c digit = rw (le-leb 48 c digit.0, le-leb c 57 digit.1)
 
-pub digit_low : (c : ℕ) → c < 48 → is_digit c ≡ false
+digit_no : (c : ℕ) → (c < 48) ⊎ (57 < c) → is_digit c ≡ false
 unfolding pick
-digit_low c low = rw (lt-leb 48 c low)
-
-pub digit_high : (c : ℕ) → 57 < c → is_digit c ≡ false
-unfolding pick
-digit_high c high = by_test (leb 48 c) (λ e. rw (e, lt-leb c 57 high)) (λ e. rw e)
+digit_no c (inl low) = rw (lt-leb 48 c low)
+digit_no c (inr high) = by_test (leb 48 c) (λ e. rw (e, lt-leb c 57 high)) (λ e. rw e)
 
 -- digits never make a value less
 grows : (v : ℕ) (l : List ℕ) → v ≤ decimal_value v l
@@ -61,46 +60,47 @@ pub record Digits (cells : List ℕ) (at first i v : ℕ) : Type 0 where
   pub same : decimal_from v (drop i cells) ≡ decimal_from first (drop at cells)
   pub small : v ≤ greatest_constant
   pub forward : at ≤ i
+  pub inside : i ≤ length cells + (at - length cells)
 
 pub digits_first : (cells : List ℕ) (at first : ℕ) → first < 256 → Digits cells at first at first
-digits_first cells at first h = record { same = refl; small = omega arith; forward = omega arith }
+digits_first cells at first h = record { same = refl; small = omega arith; forward = omega arith; inside = omega arith }
 
 module _ (cells : List ℕ) (at first i v : ℕ) (digits : Digits cells at first i v) where
   module _ (h : i < length cells) where
-    one_digit : 48 ≤ get_or cells i 0 → get_or cells i 0 ≤ 57
+    one_digit : (48 ≤ get_or cells i 0) × (get_or cells i 0 ≤ 57)
         → decimal_from (v * 10 + (get_or cells i 0 - 48)) (drop (i + 1) cells) ≡ decimal_from v (drop i cells)
     unfolding decimal_from run past_run decimal_value pick
-    one_digit low high = rw (drop_more cells i 0 h, digit_yes (get_or cells i 0) low high) refl
+    one_digit digit = rw (drop_more cells i 0 h, digit_yes (get_or cells i 0) digit) refl
 
-    pub digits_turn : 48 ≤ get_or cells i 0 → get_or cells i 0 ≤ 57 → v * 10 + (get_or cells i 0 - 48) ≤ greatest_constant
+    pub digits_turn : (48 ≤ get_or cells i 0) × (get_or cells i 0 ≤ 57) → v * 10 + (get_or cells i 0 - 48) ≤ greatest_constant
         → Digits cells at first (i + 1) (v * 10 + (get_or cells i 0 - 48))
-    digits_turn low high small =
+    digits_turn digit small =
         let from : at ≤ i = digits.forward in
-        record { same = one_digit low high ∙ digits.same; small = small; forward = omega arith }
+        record { same = one_digit digit ∙ digits.same; small = small; forward = omega arith; inside = omega arith }
 
-    pub digits_over : 48 ≤ get_or cells i 0 → get_or cells i 0 ≤ 57 → greatest_constant < v * 10 + (get_or cells i 0 - 48)
-        → Constant cells at (Wrong 6) (decimal_from first (drop at cells))
-    digits_over low high great =
-        record { same = too_great _ (drop (i + 1) cells) great ∙ one_digit low high ∙ digits.same; sound = tt }
+    pub digits_over : (48 ≤ get_or cells i 0) × (get_or cells i 0 ≤ 57) → greatest_constant < v * 10 + (get_or cells i 0 - 48)
+        → Constant cells at (Err Refused) (decimal_from first (drop at cells))
+    digits_over digit great =
+        record { same = too_great _ (drop (i + 1) cells) great ∙ one_digit digit ∙ digits.same; sound = tt }
 
-    pub digits_stop : is_digit (get_or cells i 0) ≡ false → Constant cells at (TokenAt (Number v) i) (decimal_from first (drop at cells))
-    digits_stop e =
+    pub digits_stop : (get_or cells i 0 < 48) ⊎ (57 < get_or cells i 0) → Constant cells at (Ok (TokenAt (Number v) i)) (decimal_from first (drop at cells))
+    digits_stop other =
         record {
           same = no_digits v (drop i cells) digits.small none past ∙ digits.same;
           sound = (digits.forward, omega arith);
         }
       where
         none : run is_digit (drop i cells) ≡ []
-        none = rw (drop_more cells i 0 h) (stops (get_or cells i 0) (drop (i + 1) cells) e).0
+        none = rw (drop_more cells i 0 h) (stops (get_or cells i 0) (drop (i + 1) cells) (digit_no _ other)).0
 
         past : past_run is_digit (drop i cells) ≡ drop i cells
-        past = rw (drop_more cells i 0 h) (stops (get_or cells i 0) (drop (i + 1) cells) e).1
+        past = rw (drop_more cells i 0 h) (stops (get_or cells i 0) (drop (i + 1) cells) (digit_no _ other)).1
 
-  pub digits_end : length cells ≤ i → Constant cells at (TokenAt (Number v) i) (decimal_from first (drop at cells))
-  digits_end h =
+  pub digits_end : (q : ℕ) → length cells ≤ i → i ≡ q → Constant cells at (Ok (TokenAt (Number v) q)) (decimal_from first (drop at cells))
+  digits_end q h e =
       record {
-        same = no_digits v (drop i cells) digits.small none past ∙ digits.same;
-        sound = (digits.forward, omega arith);
+        same = rw (← e) (no_digits v (drop i cells) digits.small none past ∙ digits.same);
+        sound = rw (← e) (digits.forward, omega arith);
       }
     where
       none : run is_digit (drop i cells) ≡ []
@@ -126,19 +126,19 @@ unfolding text_at pick
 double_text l = refl
 
 module _ (cells : List ℕ) (at : ℕ) where
-  pub no_character : length cells ≤ at → CharacterIs cells at Missing
+  pub no_character : length cells ≤ at → CharacterIs cells at None
   unfolding text_at
   no_character h = record { same = rw (drop_of_length-le cells h); onward = tt }
 
   module _ (h : at < length cells) where
-    pub plain_character : (get_or cells at 0 ≡ 39 → ⊥) → get_or cells at 0 < 256 → CharacterIs cells at (Plain (get_or cells at 0) (at + 1))
+    pub plain_character : (get_or cells at 0 ≡ 39 → ⊥) → get_or cells at 0 < 256 → CharacterIs cells at (Some (Plain (get_or cells at 0) (at + 1)))
     plain_character n small =
         record {
           same = rw (drop_more cells at 0 h) (plain_text (get_or cells at 0) (drop (at + 1) cells) n);
           onward = (omega arith, small);
         }
 
-    pub double_character : get_or cells at 0 ≡ 39 → get_or cells (at + 1) 0 ≡ 39 → CharacterIs cells at (Plain 39 (at + 2))
+    pub double_character : get_or cells at 0 ≡ 39 → get_or cells (at + 1) 0 ≡ 39 → CharacterIs cells at (Some (Plain 39 (at + 2)))
     double_character e f =
         by_less (at + 1) (length cells)
         (λ g. let two : at + 1 + 1 ≡ at + 2 = omega arith in
@@ -148,7 +148,7 @@ module _ (cells : List ℕ) (at : ℕ) where
         })
         (λ g. let none : get_or cells (at + 1) 0 ≡ 0 = get_or-eq_default cells 0 {n = at + 1} g in absurd (omega arith))
 
-    pub close_character : get_or cells at 0 ≡ 39 → (get_or cells (at + 1) 0 ≡ 39 → ⊥) → CharacterIs cells at (Close (at + 1))
+    pub close_character : get_or cells at 0 ≡ 39 → (get_or cells (at + 1) 0 ≡ 39 → ⊥) → CharacterIs cells at (Some (Close (at + 1)))
     close_character e n =
         let next : get_or (drop (at + 1) cells) 0 0 ≡ get_or cells (at + 1) 0 =
         get_or-drop (at + 1) cells 0 0 ∙ ap (λ k. get_or cells k 0) (add-zero (at + 1)) in
@@ -217,7 +217,7 @@ module _ (cells : List ℕ) (at i v count : ℕ) (chars : Characters cells at i 
   pub word_fits : count < 5 → v < 4294967296
   word_fits few = let fits : v < 256 ^ count = chars.fits in let most = fourth_power count few in omega arith
 
-  pub characters_turn : (c q : ℕ) → CharacterIs cells i (Plain c q) → Characters cells at q (v * 256 + c) (count + 1)
+  pub characters_turn : (c q : ℕ) → CharacterIs cells i (Some (Plain c q)) → Characters cells at q (v * 256 + c) (count + 1)
   characters_turn c q is =
       let from : at ≤ i = chars.forward in
       let on : i < q = is.onward.0 in
@@ -229,8 +229,8 @@ module _ (cells : List ℕ) (at i v count : ℕ) (chars : Characters cells at i 
         forward = omega arith;
       }
 
-  pub characters_closed : (q : ℕ) → CharacterIs cells i (Close q) → (count ≡ 0 → ⊥) → count < 5
-      → Constant cells at (TokenAt (Quoted v) q) (constant_of (text_at (drop at cells)))
+  pub characters_closed : (q : ℕ) → CharacterIs cells i (Some (Close q)) → (count ≡ 0 → ⊥) → count < 5
+      → Constant cells at (Ok (TokenAt (Quoted v) q)) (constant_of (text_at (drop at cells)))
   characters_closed q is some few =
       let from : at ≤ i = chars.forward in
       let on : i < q = is.onward in
@@ -239,13 +239,13 @@ module _ (cells : List ℕ) (at i v count : ℕ) (chars : Characters cells at i 
         sound = (omega arith, omega arith);
       }
 
-  pub characters_none : (q : ℕ) → CharacterIs cells i (Close q) → count ≡ 0 → Constant cells at (Wrong 6) (constant_of (text_at (drop at cells)))
+  pub characters_none : (q : ℕ) → CharacterIs cells i (Some (Close q)) → count ≡ 0 → Constant cells at (Err Refused) (constant_of (text_at (drop at cells)))
   characters_none q is none =
       record { same = constant_empty v count (drop q cells) none ∙ ap (constant_from v count) is.same ∙ chars.same; sound = tt }
 
-  pub characters_unclosed : CharacterIs cells i Missing → Constant cells at (Wrong 6) (constant_of (text_at (drop at cells)))
+  pub characters_unclosed : CharacterIs cells i None → Constant cells at (Err Refused) (constant_of (text_at (drop at cells)))
   unfolding constant_from
   characters_unclosed is = record { same = ap (constant_from v count) is.same ∙ chars.same; sound = tt }
 
-  pub characters_many : 5 ≤ count → Constant cells at (Wrong 6) (constant_of (text_at (drop at cells)))
+  pub characters_many : 5 ≤ count → Constant cells at (Err Refused) (constant_of (text_at (drop at cells)))
   characters_many h = record { same = constant_long v count (text_at (drop i cells)) h ∙ chars.same; sound = tt }

@@ -1,15 +1,12 @@
-use mathlib.Core.Path.{sym, ap, ◌∙◌}
-use Rattle.cells.specs.Answers.{found_of}
-use Rattle.cells.proofs.Bytes.{allowed_turn, not_allowed_here, all_allowed_law}
+use Rattle.std.proofs.Common.{rules, tests, not, ◌∙◌}
+use Rattle.std.proofs.lemmas.Iterator.{YieldsList-from_slice}
+use Rattle.std.proofs.lemmas.Iterator.Search.{position_from_yields_List}
+use Rattle.source.specs.Source.{is_allowed}
+use Rattle.cells.proofs.Bytes.{first_offset}
 use Rattle.cells.proofs.not_allowed.Goals as goal
 
-pub loop-i-preserved : goal.loop-i-preserved
-loop-i-preserved c =
-    allowed_turn _ _ c.loop-i-test.true (sym c.is_allowed.ensures ∙ c.if-is_allowed.true) ∙ c.loop-i.invariant
-
-pub returns-else-is_allowed : goal.returns-else-is_allowed
-returns-else-is_allowed c =
-    ap found_of (not_allowed_here _ _ c.loop-i-test.true (sym c.is_allowed.ensures ∙ c.if-is_allowed.false) ∙ c.loop-i.invariant)
-
 pub returns : goal.returns
-returns c = ap found_of (all_allowed_law _ _ c.loop-i-test.false ∙ c.loop-i.invariant)
+returns c =
+    position_from_yields_List (λ b. not (is_allowed b)) _ _ c.position.result c.position.ensures.ran
+    (YieldsList-from_slice _ c.iter.ensures.rest) (λ x b q k. search (rules, tests))
+    ∙ first_offset c.args.source.now

@@ -12,32 +12,32 @@ overflow_mul-v c =
 
 pub overflow_add-v : goal.overflow_add-v
 overflow_add-v c =
-    let is = (rw c.in-Plain.is at c.character_at.ensures) in record {
+    let is = (rw c.in-Some-Plain.field-0-is at c.in-Some-Plain.ensures) in record {
       fits = omega
           (arith, is.onward.1, word_fits _ _ _ _ _ c.loop-count.invariant c.loop-count-test.true);
     }
 
 pub loop-count-preserved : goal.loop-count-preserved
 loop-count-preserved c =
-    characters_turn _ _ _ _ _ c.loop-count.invariant _ _ (rw c.in-Plain.is at c.character_at.ensures)
-
-pub returns-then-count-eq0 : goal.returns-then-count-eq0
-returns-then-count-eq0 c =
-    characters_none _ _ _ _ _ c.loop-count.invariant _ (rw c.in-Close.is at c.character_at.ensures)
-    c.if-count-eq0.true
+    characters_turn _ _ _ _ _ c.loop-count.invariant _ _ (rw c.in-Some-Plain.field-0-is at c.in-Some-Plain.ensures)
 
 pub overflow_cast-result : goal.overflow_cast-result
 overflow_cast-result c =
     record { fits = omega (arith, word_fits _ _ _ _ _ c.loop-count.invariant c.loop-count-test.true) }
 
-pub returns-in-Close : goal.returns-in-Close
-returns-in-Close c =
-    characters_closed _ _ _ _ _ c.loop-count.invariant _ (rw c.in-Close.is at c.character_at.ensures)
-    c.if-count-eq0.false c.loop-count-test.true
+pub returns-in-Some-Close : goal.returns-in-Some-Close
+returns-in-Some-Close c =
+    characters_closed _ _ _ _ _ c.loop-count.invariant _ (rw c.in-Some-Close.field-0-is at c.in-Some-Close.ensures)
+    (λ e. omega arith) c.loop-count-test.true
 
-pub returns-in-Missing : goal.returns-in-Missing
-returns-in-Missing c =
-    characters_unclosed _ _ _ _ _ c.loop-count.invariant (rw c.in-Missing.is at c.character_at.ensures)
+pub returns-in_default : goal.returns-in_default
+returns-in_default c =
+    characters_none _ _ _ _ _ c.loop-count.invariant _ (rw c.in-Some-Close.field-0-is at c.in-Some-Close.ensures)
+    (omega arith)
+
+pub returns-in_default-2 : goal.returns-in_default-2
+returns-in_default-2 c =
+    characters_unclosed _ _ _ _ _ c.loop-count.invariant (rw c.in_default.is at c.character_at.ensures)
 
 pub returns : goal.returns
 returns c = characters_many _ _ _ _ _ c.loop-count.invariant c.loop-count-test.false
