@@ -20,15 +20,16 @@ use Rattle.source.specs.Grammar.{Instruction, simple, if_then, if_else, if_start
 use Rattle.source.specs.Grammar.{Labelled, labelled, further, labels_at, labelled_form, entire, only, finishing, form, Form}
 use Rattle.source.specs.Grammar.{beginning, declaration, ending, no_form}
 use Rattle.source.specs.Memory.{token_carried, token_of, tokens_from}
-use Rattle.grammar_look.specs.Internal.{left, first_name, first_label, is_number}
-use Rattle.grammar_look.proofs.Places.{left_length, left_more, left_none, left_behind, left_two, left_one}
+use Rattle.grammar_look.specs.declared.Tokens.{Tokens}
+use Rattle.grammar_look.specs.Internal.{token_at, ahead, first_name, first_label, is_number}
+use Rattle.grammar_look.proofs.Places.{ahead_length, ahead_more, ahead_none, ahead_behind, ahead_two, ahead_one}
 use Rattle.grammar_instruction.specs.Internal.{Output, whole, opening, output_of, instruction_pass}
 use Rattle.grammar.specs.Answers.{begins, declares, ends, labels as labels_told, instruction as instruction_is, opening as opening_is, finishes, goes_on, refusal, unfit}
 use Rattle.grammar.specs.Answers.{instruction_told, fields_of, labels_in, fit, told_of}
-use Rattle.grammar.specs.Internal.{further_all, LabelsOf}
+use Rattle.grammar.specs.Internal.{further_all, all_of, LabelsOf}
 
-pub left_all : (n : ℕ) (ks vs : List ℕ) → left n 0 ks vs ≡ tokens_from 0 n ks vs
-left_all n ks vs = let e : n - 0 ≡ n = omega arith in ap (λ m. tokens_from 0 m ks vs) e
+ahead_all : (toks : Tokens) → ahead toks 0 ≡ all_of toks
+ahead_all toks = let e : toks.count - 0 ≡ toks.count = omega arith in ap (λ m. tokens_from 0 m toks.kinds.now toks.values.now) e
 
 -- ---- name lists
 
@@ -50,34 +51,34 @@ no_comma : (t u : Token) (ts : List Token) → is_name t ≡ true → is_mark ma
 unfolding is_name_list pick
 no_comma t u ts e f = rw (e, f) refl
 
-module _ (ks vs : List ℕ) (n at : ℕ) where
-  pub names_none : first_name (left n at ks vs) ≡ false → false ≡ is_name_list (left n at ks vs)
-  names_none e = sym (no_name (left n at ks vs) e)
+module _ (toks : Tokens) (at : ℕ) where
+  pub names_none : first_name (ahead toks at) ≡ false → false ≡ is_name_list (ahead toks at)
+  names_none e = sym (no_name (ahead toks at) e)
 
-  first_name_law : at < n → first_name (left n at ks vs) ≡ true → is_name (token_of (get_or ks at 0) (get_or vs at 0)) ≡ true
-  first_name_law h e = rw (left_more ks vs n at h) at e
+  first_name_law : at < toks.count → first_name (ahead toks at) ≡ true → is_name (token_at toks at) ≡ true
+  first_name_law h e = rw (ahead_more toks at h) at e
 
-  second_mark : (m : ℕ) (b : Bool) → at + 1 < n → opens m (left n (at + 1) ks vs) ≡ b
-      → is_mark m (token_of (get_or ks (at + 1) 0) (get_or vs (at + 1) 0)) ≡ b
+  second_mark : (m : ℕ) (b : Bool) → at + 1 < toks.count → opens m (ahead toks (at + 1)) ≡ b
+      → is_mark m (token_at toks (at + 1)) ≡ b
   unfolding opens
-  second_mark m b h e = rw (left_more ks vs n (at + 1) h) at e
+  second_mark m b h e = rw (ahead_more toks (at + 1) h) at e
 
-  pub names_one : at < n → first_name (left n at ks vs) ≡ true → n - at ≡ 1 → true ≡ is_name_list (left n at ks vs)
-  names_one h e o = rw (left_one ks vs n at h o) (sym (one_name (token_of (get_or ks at 0) (get_or vs at 0)) (first_name_law h e)))
+  pub names_one : at < toks.count → first_name (ahead toks at) ≡ true → toks.count - at ≡ 1 → true ≡ is_name_list (ahead toks at)
+  names_one h e o = rw (ahead_one toks at h o) (sym (one_name (token_at toks at) (first_name_law h e)))
 
-  pub names_more : at < n → (n - at ≡ 1 → ⊥) → first_name (left n at ks vs) ≡ true
-      → opens mark_comma (left n (at + 1) ks vs) ≡ true → is_name_list (left n at ks vs) ≡ is_name_list (left n (at + 2) ks vs)
+  pub names_more : at < toks.count → (toks.count - at ≡ 1 → ⊥) → first_name (ahead toks at) ≡ true
+      → opens mark_comma (ahead toks (at + 1)) ≡ true → is_name_list (ahead toks at) ≡ is_name_list (ahead toks (at + 2))
   names_more h o e f =
-      ap is_name_list (left_two ks vs n at h o)
-      ∙ more_names (token_of (get_or ks at 0) (get_or vs at 0)) (token_of (get_or ks (at + 1) 0) (get_or vs (at + 1) 0)) (left n (at + 2) ks vs)
+      ap is_name_list (ahead_two toks at h o)
+      ∙ more_names (token_at toks at) (token_at toks (at + 1)) (ahead toks (at + 2))
       (first_name_law h e) (second_mark mark_comma true (omega (arith, h, o)) f)
 
-  pub names_parted : at < n → (n - at ≡ 1 → ⊥) → first_name (left n at ks vs) ≡ true
-      → opens mark_comma (left n (at + 1) ks vs) ≡ false → false ≡ is_name_list (left n at ks vs)
+  pub names_parted : at < toks.count → (toks.count - at ≡ 1 → ⊥) → first_name (ahead toks at) ≡ true
+      → opens mark_comma (ahead toks (at + 1)) ≡ false → false ≡ is_name_list (ahead toks at)
   names_parted h o e f =
       sym
-      (ap is_name_list (left_two ks vs n at h o)
-      ∙ no_comma (token_of (get_or ks at 0) (get_or vs at 0)) (token_of (get_or ks (at + 1) 0) (get_or vs (at + 1) 0)) (left n (at + 2) ks vs)
+      (ap is_name_list (ahead_two toks at h o)
+      ∙ no_comma (token_at toks at) (token_at toks (at + 1)) (ahead toks (at + 2))
       (first_name_law h e) (second_mark mark_comma false (omega (arith, h, o)) f))
 
 -- ---- labels
@@ -153,7 +154,7 @@ longer_form ls o rest none e t ts h = refl
 longer_form ls o rest (read i []) e t ts h = let z : ◌≡◌ {A = ℕ} 0 1 = cc in absurd (omega arith)
 longer_form ls o rest (read i (u ∷ us)) e t ts h = refl
 
--- the loop over the labels
+-- a label more
 module _ (ks vs : List ℕ) where
   labels_more : (c k m : ℕ) → 2 * c + 2 ≤ m
       → labels_in (suc c) (tokens_from k m ks vs)
@@ -167,19 +168,21 @@ module _ (ks vs : List ℕ) where
       rw e
       (ap (λ l. token_carried (token_of (get_or ks k 0) (get_or vs k 0)) ∷ l) (labels_more c (suc (suc k)) m (omega (arith, h))))
 
+-- the loop over them
+module _ (toks : Tokens) where
   -- the loop: c labels are passed
-  pub record Passed (n c : ℕ) : Type 0 where
-    pub inside : 2 * c ≤ n
-    pub same : labels_at (tokens_from 0 n ks vs)
-        ≡ further_all (labels_in c (tokens_from 0 n ks vs)) (labels_at (left n (2 * c) ks vs))
+  pub record Passed (c : ℕ) : Type 0 where
+    pub inside : 2 * c ≤ toks.count
+    pub same : labels_at (all_of toks)
+        ≡ further_all (labels_in c (all_of toks)) (labels_at (ahead toks (2 * c)))
 
-  pub passed_none : (n : ℕ) → Passed n 0
+  pub passed_none : Passed 0
   unfolding labels_in
-  passed_none n =
+  passed_none =
       record {
         inside = omega arith;
         same =
-            sym (none_further (labels_at (left n (2 * 0) ks vs)) ∙ ap labels_at (ap (λ i. left n i ks vs) zeroth ∙ left_all n ks vs));
+            sym (none_further (labels_at (ahead toks (2 * 0))) ∙ ap labels_at (ap (λ i. ahead toks i) zeroth ∙ ahead_all toks));
       }
     where
       zeroth : 2 * 0 ≡ 0
@@ -188,35 +191,35 @@ module _ (ks vs : List ℕ) where
       none_further : (l : Labelled) → further_all [] l ≡ l
       none_further (labelled ls ts) = refl
 
-  pub passed_more : (n c : ℕ) → 2 * c + 1 < n → first_label (left n (2 * c) ks vs) ≡ true → Passed n c → Passed n (c + 1)
-  passed_more n c h e p =
+  pub passed_more : (c : ℕ) → 2 * c + 1 < toks.count → first_label (ahead toks (2 * c)) ≡ true → Passed c → Passed (c + 1)
+  passed_more c h e p =
       record {
         inside = omega (arith, h);
         same =
             p.same
-            ∙ ap (further_all (labels_in c (tokens_from 0 n ks vs))) here
-            ∙ one_further (labels_in c (tokens_from 0 n ks vs)) (token_carried first) (labels_at (left n (2 * c + 2) ks vs))
+            ∙ ap (further_all (labels_in c (all_of toks))) here
+            ∙ one_further (labels_in c (all_of toks)) (token_carried first) (labels_at (ahead toks (2 * c + 2)))
             ∙ ap₂ further_all
-            (sym (ap (λ j. labels_in j (tokens_from 0 n ks vs)) (add-one c) ∙ more))
-            (ap (λ i. labels_at (left n i ks vs)) twice);
+            (sym (ap (λ j. labels_in j (all_of toks)) (add-one c) ∙ more))
+            (ap (λ i. labels_at (ahead toks i)) twice);
       }
     where
       first : Token
-      first = token_of (get_or ks (2 * c) 0) (get_or vs (2 * c) 0)
+      first = token_at toks (2 * c)
 
       second : Token
-      second = token_of (get_or ks (2 * c + 1) 0) (get_or vs (2 * c + 1) 0)
+      second = token_at toks (2 * c + 1)
 
-      two : left n (2 * c) ks vs ≡ first ∷ second ∷ left n (2 * c + 2) ks vs
-      two = left_two ks vs n (2 * c) (omega (arith, h)) (λ o. absurd (omega (arith, h, o)))
+      two : ahead toks (2 * c) ≡ first ∷ second ∷ ahead toks (2 * c + 2)
+      two = ahead_two toks (2 * c) (omega (arith, h)) (λ o. absurd (omega (arith, h, o)))
 
-      here : labels_at (left n (2 * c) ks vs) ≡ further (token_carried first) (labels_at (left n (2 * c + 2) ks vs))
-      here = ap labels_at two ∙ one_label first second (left n (2 * c + 2) ks vs) (rw two at e)
+      here : labels_at (ahead toks (2 * c)) ≡ further (token_carried first) (labels_at (ahead toks (2 * c + 2)))
+      here = ap labels_at two ∙ one_label first second (ahead toks (2 * c + 2)) (rw two at e)
 
-      more : labels_in (suc c) (tokens_from 0 n ks vs) ≡ labels_in c (tokens_from 0 n ks vs) ++ (token_carried first ∷ [])
+      more : labels_in (suc c) (all_of toks) ≡ labels_in c (all_of toks) ++ (token_carried first ∷ [])
       more =
           let z : 0 + 2 * c ≡ 2 * c = omega arith in
-          rw z at (labels_more c 0 n (omega (arith, h)))
+          rw z at (labels_more toks.kinds.now toks.values.now c 0 toks.count (omega (arith, h)))
 
       twice : 2 * c + 2 ≡ 2 * (c + 1)
       twice = omega arith
@@ -224,114 +227,114 @@ module _ (ks vs : List ℕ) where
       one_further : (ms : List ℕ) (m : ℕ) (l : Labelled) → further_all ms (further m l) ≡ further_all (ms ++ (m ∷ [])) l
       one_further ms m (labelled ls ts) = ap (λ x. labelled x ts) (sym (append_assoc ms (m ∷ []) ls))
 
-  pub passed_all : (n c : ℕ) → first_label (left n (2 * c) ks vs) ≡ false → Passed n c → LabelsOf n c ks vs
-  passed_all n c e p =
+  pub passed_all : (c : ℕ) → first_label (ahead toks (2 * c)) ≡ false → Passed c → LabelsOf toks c
+  passed_all c e p =
       record {
         found =
             p.same
-            ∙ ap (further_all (labels_in c (tokens_from 0 n ks vs))) (no_label (left n (2 * c) ks vs) e)
-            ∙ ap (λ x. labelled x (left n (2 * c) ks vs)) (append-nil (labels_in c (tokens_from 0 n ks vs)));
+            ∙ ap (further_all (labels_in c (all_of toks))) (no_label (ahead toks (2 * c)) e)
+            ∙ ap (λ x. labelled x (ahead toks (2 * c))) (append-nil (labels_in c (all_of toks)));
         inside = p.inside;
       }
 
   -- ---- a statement with labels, an instruction, or both
 
-  module _ (n c : ℕ) (found : LabelsOf n c ks vs) where
-    labels_form_law : labelled_form (labels_at (tokens_from 0 n ks vs)) ≡ labelled_form (labelled (labels_in c (tokens_from 0 n ks vs)) (left n (2 * c) ks vs))
+  module _ (c : ℕ) (found : LabelsOf toks c) where
+    labels_form_law : labelled_form (labels_at (all_of toks)) ≡ labelled_form (labelled (labels_in c (all_of toks)) (ahead toks (2 * c)))
     labels_form_law = ap labelled_form found.found
 
-    pub labels_alone : 2 * c ≡ n
-        → labels_told (labels_in c (tokens_from 0 n ks vs)) ≡ fields_of (labelled_form (labels_at (tokens_from 0 n ks vs)))
+    pub labels_alone : 2 * c ≡ toks.count
+        → labels_told (labels_in c (all_of toks)) ≡ fields_of (labelled_form (labels_at (all_of toks)))
     unfolding labelled_form
     labels_alone e =
         sym
         (ap fields_of
         (labels_form_law
-        ∙ ap (λ l. labelled_form (labelled (labels_in c (tokens_from 0 n ks vs)) l)) (left_none ks vs n (2 * c) (omega (arith, e)))))
+        ∙ ap (λ l. labelled_form (labelled (labels_in c (all_of toks)) l)) (ahead_none toks (2 * c) (omega (arith, e)))))
 
-    instruction_form_law : (2 * c ≡ n → ⊥)
-        → labelled_form (labels_at (tokens_from 0 n ks vs))
-        ≡ entire (labels_in c (tokens_from 0 n ks vs)) (instruction_at (left n (2 * c) ks vs))
+    instruction_form_law : (2 * c ≡ toks.count → ⊥)
+        → labelled_form (labels_at (all_of toks))
+        ≡ entire (labels_in c (all_of toks)) (instruction_at (ahead toks (2 * c)))
     instruction_form_law h =
         labels_form_law
-        ∙ ap (λ l. labelled_form (labelled (labels_in c (tokens_from 0 n ks vs)) l)) more
+        ∙ ap (λ l. labelled_form (labelled (labels_in c (all_of toks)) l)) more
         ∙ one_more_law _ _
-        ∙ ap (λ l. entire (labels_in c (tokens_from 0 n ks vs)) (instruction_at l)) (sym more)
+        ∙ ap (λ l. entire (labels_in c (all_of toks)) (instruction_at l)) (sym more)
       where
-        more : left n (2 * c) ks vs
-            ≡ token_of (get_or ks (2 * c) 0) (get_or vs (2 * c) 0) ∷ left n (2 * c + 1) ks vs
-        more = left_more ks vs n (2 * c) (omega (arith, h, found.inside))
+        more : ahead toks (2 * c)
+            ≡ token_at toks (2 * c) ∷ ahead toks (2 * c + 1)
+        more = ahead_more toks (2 * c) (omega (arith, h, found.inside))
 
         one_more_law : (t : Token) (ts : List Token)
-            → labelled_form (labelled (labels_in c (tokens_from 0 n ks vs)) (t ∷ ts))
-            ≡ entire (labels_in c (tokens_from 0 n ks vs)) (instruction_at (t ∷ ts))
-        one_more_law t ts = clause (labels_in c (tokens_from 0 n ks vs)) t ts
+            → labelled_form (labelled (labels_in c (all_of toks)) (t ∷ ts))
+            ≡ entire (labels_in c (all_of toks)) (instruction_at (t ∷ ts))
+        one_more_law t ts = clause (labels_in c (all_of toks)) t ts
 
-    pub no_instruction_law : (fs : List Field) → (2 * c ≡ n → ⊥) → none ≡ instruction_pass fs (left n (2 * c) ks vs)
-        → refusal 7 ≡ fields_of (labelled_form (labels_at (tokens_from 0 n ks vs)))
+    pub no_instruction_law : (fs : List Field) → (2 * c ≡ toks.count → ⊥) → none ≡ instruction_pass fs (ahead toks (2 * c))
+        → refusal 7 ≡ fields_of (labelled_form (labels_at (all_of toks)))
     no_instruction_law fs h e =
         sym
         (ap fields_of (instruction_form_law h)
-        ∙ missing_form (labels_in c (tokens_from 0 n ks vs)) fs (instruction_at (left n (2 * c) ks vs)) e)
+        ∙ missing_form (labels_in c (all_of toks)) fs (instruction_at (ahead toks (2 * c))) e)
 
-    module _ (a : ℕ) (h : 2 * c ≡ n → ⊥) where
-      module _ (i : a ≡ n) where
-        behind_none : (o : Output) → read o (left n a ks vs) ≡ instruction_pass [] (left n (2 * c) ks vs)
-            → Entire o (instruction_at (left n (2 * c) ks vs))
+    module _ (a : ℕ) (h : 2 * c ≡ toks.count → ⊥) where
+      module _ (i : a ≡ toks.count) where
+        behind_none : (o : Output) → read o (ahead toks a) ≡ instruction_pass [] (ahead toks (2 * c))
+            → Entire o (instruction_at (ahead toks (2 * c)))
         behind_none o e =
-            entire_read o (left n a ks vs) (instruction_at (left n (2 * c) ks vs)) e (left_none ks vs n a (omega (arith, i)))
+            entire_read o (ahead toks a) (instruction_at (ahead toks (2 * c))) e (ahead_none toks a (omega (arith, i)))
 
-        pub whole_instruction : (gs : List Field) → read (whole gs) (left n a ks vs) ≡ instruction_pass [] (left n (2 * c) ks vs)
-            → instruction_is (labels_in c (tokens_from 0 n ks vs)) gs ≡ fields_of (labelled_form (labels_at (tokens_from 0 n ks vs)))
+        pub whole_instruction : (gs : List Field) → read (whole gs) (ahead toks a) ≡ instruction_pass [] (ahead toks (2 * c))
+            → instruction_is (labels_in c (all_of toks)) gs ≡ fields_of (labelled_form (labels_at (all_of toks)))
         whole_instruction gs e =
             sym
-            (ap fields_of (instruction_form_law h) ∙ whole_form (labels_in c (tokens_from 0 n ks vs)) (behind_none (whole gs) e))
+            (ap fields_of (instruction_form_law h) ∙ whole_form (labels_in c (all_of toks)) (behind_none (whole gs) e))
 
-        pub opening_instruction : (gs : List Field) → read (opening gs) (left n a ks vs) ≡ instruction_pass [] (left n (2 * c) ks vs)
-            → opening_is (labels_in c (tokens_from 0 n ks vs)) gs ≡ fields_of (labelled_form (labels_at (tokens_from 0 n ks vs)))
+        pub opening_instruction : (gs : List Field) → read (opening gs) (ahead toks a) ≡ instruction_pass [] (ahead toks (2 * c))
+            → opening_is (labels_in c (all_of toks)) gs ≡ fields_of (labelled_form (labels_at (all_of toks)))
         opening_instruction gs e =
             sym
-            (ap fields_of (instruction_form_law h) ∙ opening_form (labels_in c (tokens_from 0 n ks vs)) (behind_none (opening gs) e))
+            (ap fields_of (instruction_form_law h) ∙ opening_form (labels_in c (all_of toks)) (behind_none (opening gs) e))
 
-      pub more_behind : (o : Output) → (a ≡ n → ⊥) → a ≤ n → read o (left n a ks vs) ≡ instruction_pass [] (left n (2 * c) ks vs)
-          → refusal 7 ≡ fields_of (labelled_form (labels_at (tokens_from 0 n ks vs)))
+      pub more_behind : (o : Output) → (a ≡ toks.count → ⊥) → a ≤ toks.count → read o (ahead toks a) ≡ instruction_pass [] (ahead toks (2 * c))
+          → refusal 7 ≡ fields_of (labelled_form (labels_at (all_of toks)))
       more_behind o i j e =
           sym
           (ap fields_of (instruction_form_law h)
-          ∙ longer_form (labels_in c (tokens_from 0 n ks vs)) o (left n a ks vs) (instruction_at (left n (2 * c) ks vs)) e
-          _ _ (left_more ks vs n a (omega (arith, i, j))))
+          ∙ longer_form (labels_in c (all_of toks)) o (ahead toks a) (instruction_at (ahead toks (2 * c))) e
+          _ _ (ahead_more toks a (omega (arith, i, j))))
 
 -- ---- behind %FINISH
 
-module _ (ks vs : List ℕ) (n : ℕ) where
-  from_one : 1 < n → behind_first (left n 1 ks vs) ≡ left n 2 ks vs
-  from_one h = sym (left_behind ks vs n 1 h)
+module _ (toks : Tokens) where
+  from_one : 1 < toks.count → behind_first (ahead toks 1) ≡ ahead toks 2
+  from_one h = sym (ahead_behind toks 1 h)
 
-  from_two : 2 < n → behind_first (left n 2 ks vs) ≡ left n 3 ks vs
-  from_two h = sym (left_behind ks vs n 2 h)
+  from_two : 2 < toks.count → behind_first (ahead toks 2) ≡ ahead toks 3
+  from_two h = sym (ahead_behind toks 2 h)
 
-  module _ (o : opens mark_else (left n 1 ks vs) ≡ true) (h : 1 < n) where
-    module _ (p : opens mark_start (left n 2 ks vs) ≡ true) (i : 2 < n) where
-      pub finish_goes_on : n ≡ 3 → goes_on ≡ fields_of (finishing (left n 1 ks vs))
+  module _ (o : opens mark_else (ahead toks 1) ≡ true) (h : 1 < toks.count) where
+    module _ (p : opens mark_start (ahead toks 2) ≡ true) (i : 2 < toks.count) where
+      pub finish_goes_on : toks.count ≡ 3 → goes_on ≡ fields_of (finishing (ahead toks 1))
       unfolding finishing pick
-      finish_goes_on e = rw (o, from_one h, p, from_two i, left_none ks vs n 3 (omega (arith, e))) refl
+      finish_goes_on e = rw (o, from_one h, p, from_two i, ahead_none toks 3 (omega (arith, e))) refl
 
-      pub finish_else_more : (n ≡ 3 → ⊥) → refusal 7 ≡ fields_of (finishing (left n 1 ks vs))
+      pub finish_else_more : (toks.count ≡ 3 → ⊥) → refusal 7 ≡ fields_of (finishing (ahead toks 1))
       unfolding finishing pick
-      finish_else_more e = rw (o, from_one h, p, from_two i, left_more ks vs n 3 (omega (arith, e, i))) refl
+      finish_else_more e = rw (o, from_one h, p, from_two i, ahead_more toks 3 (omega (arith, e, i))) refl
 
-    pub finish_else_other : opens mark_start (left n 2 ks vs) ≡ false → refusal 7 ≡ fields_of (finishing (left n 1 ks vs))
+    pub finish_else_other : opens mark_start (ahead toks 2) ≡ false → refusal 7 ≡ fields_of (finishing (ahead toks 1))
     unfolding finishing pick
     finish_else_other p = rw (o, from_one h, p) refl
 
-  module _ (o : opens mark_else (left n 1 ks vs) ≡ false) where
-    pub finish_alone : n ≡ 1 → finishes ≡ fields_of (finishing (left n 1 ks vs))
+  module _ (o : opens mark_else (ahead toks 1) ≡ false) where
+    pub finish_alone : toks.count ≡ 1 → finishes ≡ fields_of (finishing (ahead toks 1))
     unfolding finishing pick
-    finish_alone e = rw (o, left_none ks vs n 1 (omega (arith, e))) refl
+    finish_alone e = rw (o, ahead_none toks 1 (omega (arith, e))) refl
 
-    pub finish_more : 0 < n → (n ≡ 1 → ⊥) → refusal 7 ≡ fields_of (finishing (left n 1 ks vs))
+    pub finish_more : 0 < toks.count → (toks.count ≡ 1 → ⊥) → refusal 7 ≡ fields_of (finishing (ahead toks 1))
     unfolding finishing pick
-    finish_more h e = rw (o, left_more ks vs n 1 (omega (arith, e, h))) refl
+    finish_more h e = rw (o, ahead_more toks 1 (omega (arith, e, h))) refl
 
 -- ---- forms
 
@@ -347,63 +350,63 @@ more_than_one f m [] o e = let z : ◌≡◌ {A = ℕ} 0 1 = cc in absurd (omega
 more_than_one f m (t ∷ []) o e = absurd (e refl)
 more_than_one f m (t ∷ u ∷ ts) o e = refl
 
-module _ (ks vs : List ℕ) (n : ℕ) where
+module _ (toks : Tokens) where
   all : List Token
-  all = tokens_from 0 n ks vs
+  all = all_of toks
 
-  all_length : length all ≡ n
+  all_length : length all ≡ toks.count
   unfolding all
-  all_length = ap length (sym (left_all n ks vs)) ∙ left_length ks vs n 0 ∙ same n
+  all_length = ap length (sym (ahead_all toks)) ∙ ahead_length toks 0 ∙ same toks.count
     where
       same : (m : ℕ) → m - 0 ≡ m
       same m = omega arith
 
-  behind_all : 0 < n → left n 1 ks vs ≡ behind_first all
+  behind_all : 0 < toks.count → ahead toks 1 ≡ behind_first all
   unfolding all
   behind_all inside =
       let one : 0 + 1 ≡ 1 = omega arith in
-      ap (λ i. left n i ks vs) (sym one) ∙ left_behind ks vs n 0 inside ∙ ap behind_first (left_all n ks vs)
+      ap (λ i. ahead toks i) (sym one) ∙ ahead_behind toks 0 inside ∙ ap behind_first (ahead_all toks)
 
-  at_front : (m : ℕ) (b : Bool) → opens m (left n 0 ks vs) ≡ b → opens m all ≡ b
+  at_front : (m : ℕ) (b : Bool) → opens m (ahead toks 0) ≡ b → opens m all ≡ b
   unfolding all
-  at_front m b e = rw (left_all n ks vs) at e
+  at_front m b e = rw (ahead_all toks) at e
 
-  module _ (first : opens mark_begin (left n 0 ks vs) ≡ true) where
+  module _ (first : opens mark_begin (ahead toks 0) ≡ true) where
     begin_form : form all ≡ only beginning (behind_first all)
     unfolding form
     begin_form = sym (pick_yes _ _ _ _ (at_front mark_begin true first) refl)
 
-    pub begin_alone : n ≡ 1 → begins ≡ fields_of (form (tokens_from 0 n ks vs))
+    pub begin_alone : toks.count ≡ 1 → begins ≡ fields_of (form (all_of toks))
     unfolding all
     begin_alone e = sym (ap fields_of (begin_form ∙ one_behind beginning all (all_length ∙ e)))
 
-    pub begin_more : (n ≡ 1 → ⊥) → refusal 7 ≡ fields_of (form (tokens_from 0 n ks vs))
+    pub begin_more : (toks.count ≡ 1 → ⊥) → refusal 7 ≡ fields_of (form (all_of toks))
     unfolding all
     begin_more e =
         sym
         (ap fields_of
         (begin_form ∙ more_than_one beginning mark_begin all (at_front mark_begin true first) (λ o. e (sym all_length ∙ o))))
 
-  module _ (first : opens mark_begin (left n 0 ks vs) ≡ false) where
-    module _ (second : opens mark_end (left n 0 ks vs) ≡ true) where
+  module _ (first : opens mark_begin (ahead toks 0) ≡ false) where
+    module _ (second : opens mark_end (ahead toks 0) ≡ true) where
       end_form : form all ≡ only ending (behind_first all)
       unfolding form
       end_form =
           sym (pick_no _ _ _ _ (at_front mark_begin false first) (pick_yes _ _ _ _ (at_front mark_end true second) refl))
 
-      pub end_alone : n ≡ 1 → ends ≡ fields_of (form (tokens_from 0 n ks vs))
+      pub end_alone : toks.count ≡ 1 → ends ≡ fields_of (form (all_of toks))
       unfolding all
       end_alone e = sym (ap fields_of (end_form ∙ one_behind ending all (all_length ∙ e)))
 
-      pub end_more : (n ≡ 1 → ⊥) → refusal 7 ≡ fields_of (form (tokens_from 0 n ks vs))
+      pub end_more : (toks.count ≡ 1 → ⊥) → refusal 7 ≡ fields_of (form (all_of toks))
       unfolding all
       end_more e =
           sym
           (ap fields_of
           (end_form ∙ more_than_one ending mark_end all (at_front mark_end true second) (λ o. e (sym all_length ∙ o))))
 
-    module _ (second : opens mark_end (left n 0 ks vs) ≡ false) where
-      module _ (third : opens mark_integer (left n 0 ks vs) ≡ true) (inside : 0 < n) where
+    module _ (second : opens mark_end (ahead toks 0) ≡ false) where
+      module _ (third : opens mark_integer (ahead toks 0) ≡ true) (inside : 0 < toks.count) where
         integer_form : form all ≡ pick (is_name_list (behind_first all)) declaration no_form
         unfolding form
         integer_form =
@@ -411,19 +414,19 @@ module _ (ks vs : List ℕ) (n : ℕ) where
             (pick_no _ _ _ _ (at_front mark_begin false first)
             (pick_no _ _ _ _ (at_front mark_end false second) (pick_yes _ _ _ _ (at_front mark_integer true third) refl)))
 
-        names_behind : (b : Bool) → b ≡ is_name_list (left n 1 ks vs) → is_name_list (behind_first all) ≡ b
+        names_behind : (b : Bool) → b ≡ is_name_list (ahead toks 1) → is_name_list (behind_first all) ≡ b
         names_behind b e = sym (e ∙ ap is_name_list (behind_all inside))
 
-        pub integer_names : true ≡ is_name_list (left n 1 ks vs) → declares ≡ fields_of (form (tokens_from 0 n ks vs))
+        pub integer_names : true ≡ is_name_list (ahead toks 1) → declares ≡ fields_of (form (all_of toks))
         unfolding all pick
         integer_names e = sym (ap fields_of (integer_form ∙ ap (λ b. pick b declaration no_form) (names_behind true e)))
 
-        pub integer_more : false ≡ is_name_list (left n 1 ks vs) → refusal 7 ≡ fields_of (form (tokens_from 0 n ks vs))
+        pub integer_more : false ≡ is_name_list (ahead toks 1) → refusal 7 ≡ fields_of (form (all_of toks))
         unfolding all pick
         integer_more e = sym (ap fields_of (integer_form ∙ ap (λ b. pick b declaration no_form) (names_behind false e)))
 
-      module _ (third : opens mark_integer (left n 0 ks vs) ≡ false) where
-        pub finish_form : opens mark_finish (left n 0 ks vs) ≡ true → 0 < n → finishing (left n 1 ks vs) ≡ form (tokens_from 0 n ks vs)
+      module _ (third : opens mark_integer (ahead toks 0) ≡ false) where
+        pub finish_form : opens mark_finish (ahead toks 0) ≡ true → 0 < toks.count → finishing (ahead toks 1) ≡ form (all_of toks)
         unfolding form all
         finish_form fourth inside =
             pick_no _ _ _ _ (at_front mark_begin false first)
@@ -431,8 +434,8 @@ module _ (ks vs : List ℕ) (n : ℕ) where
             (pick_no _ _ _ _ (at_front mark_integer false third)
             (pick_yes _ _ _ _ (at_front mark_finish true fourth) (ap finishing (behind_all inside)))))
 
-        pub other_form : opens mark_finish (left n 0 ks vs) ≡ false
-            → labelled_form (labels_at (tokens_from 0 n ks vs)) ≡ form (tokens_from 0 n ks vs)
+        pub other_form : opens mark_finish (ahead toks 0) ≡ false
+            → labelled_form (labels_at (all_of toks)) ≡ form (all_of toks)
         unfolding form all
         other_form fourth =
             pick_no _ _ _ _ (at_front mark_begin false first)

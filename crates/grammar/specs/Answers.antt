@@ -1,6 +1,6 @@
 -- What `form_of` says of a statement: its form, in the terms of source/specs/Grammar.antt, with the instruction as the fields
 -- that stand for it. Comments in quotes are document 01's words.
-use Rattle.std.specs.Prelude.{ℕ, zero, suc, ◌*◌, ◌≤◌, Bool, false, List, [], ◌∷◌, leb, length}
+use Rattle.std.specs.Prelude.{ℕ, zero, suc, ◌*◌, ◌≤◌, Bool, false, Result, Ok, Err, List, [], ◌∷◌, leb, length}
 use Rattle.base.specs.Choice.{pick}
 use Rattle.sheet.specs.declared.Field.{Field}
 use Rattle.sheet_field.specs.Memory.{fields_from}
@@ -11,7 +11,9 @@ use Rattle.source.specs.Grammar.{beginning, declaration, ending, labels as label
 use Rattle.source.specs.Fields.{instruction_fields}
 use Rattle.source.specs.Memory.{token_carried}
 use Rattle.grammar.specs.declared.Form.{Form}
-use Rattle.grammar.specs.declared.Form.TheVariants.{Begin, Declaration, End, Labels, Instruction as InstructionAt, Opening, Finish, FinishElse, Nothing, Unfit}
+use Rattle.grammar.specs.declared.Form.TheVariants.{Begin, Declaration, End, Labels, Instruction as InstructionAt, Opening, Finish, FinishElse}
+use Rattle.grammar.specs.declared.Failure.{Failure}
+use Rattle.grammar.specs.declared.Failure.TheVariants.{NoForm, Unfit}
 
 pub data Told : Type 0 where
   begins : Told
@@ -52,18 +54,22 @@ labels_in zero ts = []
 labels_in (suc c) [] = []
 labels_in (suc c) (t ∷ ts) = token_carried t ∷ labels_in c (behind_first ts)
 
--- an answer about the tokens ts, with the array that holds the fields
-abbrev pub told : List Token → Form → List ℕ → Told
-told ts Begin fs = begins
-told ts Declaration fs = declares
-told ts End fs = ends
-told ts (Labels c) fs = labels (labels_in c ts)
-told ts (InstructionAt c m) fs = instruction (labels_in c ts) (fields_from 0 m fs)
-told ts (Opening c m) fs = opening (labels_in c ts) (fields_from 0 m fs)
-told ts Finish fs = finishes
-told ts FinishElse fs = goes_on
-told ts Nothing fs = refusal 7
-told ts Unfit fs = unfit
+-- a form of the tokens ts, with the array that holds the fields
+abbrev pub told_form : List Token → Form → List ℕ → Told
+told_form ts Begin fs = begins
+told_form ts Declaration fs = declares
+told_form ts End fs = ends
+told_form ts (Labels c) fs = labels (labels_in c ts)
+told_form ts (InstructionAt c m) fs = instruction (labels_in c ts) (fields_from 0 m fs)
+told_form ts (Opening c m) fs = opening (labels_in c ts) (fields_from 0 m fs)
+told_form ts Finish fs = finishes
+told_form ts FinishElse fs = goes_on
+
+-- an answer about them
+abbrev pub told : List Token → Result Form Failure → List ℕ → Told
+told ts (Ok f) fs = told_form ts f fs
+told ts (Err NoForm) fs = refusal 7
+told ts (Err Unfit) fs = unfit
 
 -- whether n tokens are no more than a statement can have, and than an array has places
 abbrev pub fit : ℕ → ℕ → Bool
@@ -83,5 +89,3 @@ Few n (InstructionAt c m) = (2 * c ≤ n) × (m ≤ n)
 Few n (Opening c m) = (2 * c ≤ n) × (m ≤ n)
 Few n Finish = Unit {0}
 Few n FinishElse = Unit {0}
-Few n Nothing = Unit {0}
-Few n Unfit = Unit {0}

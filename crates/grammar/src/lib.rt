@@ -1,16 +1,16 @@
 // The form of a statement, document 01 ("Statements") and 02, L1: from its tokens to its labels and the fields of its instruction.
 #![tactic(auto)]
 
-ghost use Rattle.std.specs.Prelude.{◌≡◌, ◌<◌, ◌≤◌, length};
+ghost use Rattle.std.specs.Prelude.{◌≡◌, ◌<◌, ◌≤◌, length, IfOk};
 ghost use Rattle.source.specs.Limits.{most_cells};
 ghost use Rattle.source.specs.Grammar.{form, is_name_list, labelled_form, labels_at, finishing as behind_finish};
 ghost use Rattle.source.specs.Memory.{tokens_from};
-ghost use Rattle.grammar_look.specs.Internal.{left};
+ghost use Rattle.grammar_look.specs.Internal.{ahead};
 ghost use Rattle.grammar.specs.Answers.{fields_of, told, fit, told_of, Few};
-ghost use Rattle.grammar.specs.Internal.{LabelsOf, Tells};
+ghost use Rattle.grammar.specs.Internal.{all_of, LabelsOf, Tells};
 
 use grammar_instruction::{Instructed, instruction};
-use grammar_look::{label_at, mark_at, name_at};
+use grammar_look::Tokens;
 use source::MOST_CELLS;
 use source::marks::{
     MARK_BEGIN, MARK_COMMA, MARK_ELSE, MARK_END, MARK_FINISH, MARK_INTEGER, MARK_START,
@@ -18,7 +18,7 @@ use source::marks::{
 
 // The form of a statement. `Labels(c)`: c labels alone; they are the numbers that the tokens 0, 2 .. carry. `Instruction(c, m)`:
 // c labels and an instruction, whose m fields fill the front of the array. `Opening(c, m)`: the same for an IF up to its
-// `%START`. `Nothing`: no such form. `Unfit`: the tokens are more than a statement can have, or than the array has places.
+// `%START`.
 #[derive(Clone, Copy)]
 pub enum Form {
     Begin,
@@ -29,142 +29,137 @@ pub enum Form {
     Opening(usize, usize),
     Finish,
     FinishElse,
-    Nothing,
+}
+
+// Why tokens have no form. `NoForm`: no statement has such tokens. `Unfit`: they are more than a statement can have, or than the
+// array has places.
+#[derive(Clone, Copy)]
+pub enum Failure {
+    NoForm,
     Unfit,
 }
 
 // Whether the tokens from place `at` on are a list of names parted by commas.
-fn is_name_list(kinds: &[u8], values: &[u32], n: usize, at: usize) -> bool
-    requires { n ≤ most_cells }
-    ensures { result ≡ is_name_list (left n at kinds.now values.now) }
+fn is_name_list(tokens: &Tokens<'_>, at: usize) -> bool
+    requires { tokens.now.count ≤ most_cells }
+    ensures { result ≡ is_name_list (ahead tokens.now at) }
 {
     let mut i = at;
-    while name_at(kinds, values, n, i) {
-        if n - i == 1 {
+    while tokens.name_at(i) {
+        if tokens.count - i == 1 {
             return true;
         }
-        if mark_at(kinds, values, n, i + 1, MARK_COMMA) {
-            i += 2;
-        } else {
+        if !tokens.mark_at(i + 1, MARK_COMMA) {
             return false;
         }
+        i += 2;
     }
     false
 }
 
 // The number of labels that stand before anything else.
-fn labels(kinds: &[u8], values: &[u32], n: usize) -> usize
-    requires { n ≤ most_cells }
-    ensures { LabelsOf n result kinds.now values.now }
+fn labels(tokens: &Tokens<'_>) -> usize
+    requires { tokens.now.count ≤ most_cells }
+    ensures { LabelsOf tokens.now result }
 {
     let mut c = 0;
-    while label_at(kinds, values, n, 2 * c) {
+    while tokens.label_at(2 * c) {
         c += 1;
     }
     c
 }
 
 // A statement of labels, an instruction, or both.
-fn labelled(kinds: &[u8], values: &[u32], n: usize, fields: &mut [u64]) -> Form
-    requires { (n ≤ most_cells) × (n ≤ length fields.old) }
-    ensures read { told (tokens_from 0 n kinds.now values.now) result fields.new
-        ≡ fields_of (labelled_form (labels_at (tokens_from 0 n kinds.now values.now))) }
-    ensures few { Few n result }
+fn labelled(tokens: &Tokens<'_>, fields: &mut [u64]) -> Result<Form, Failure>
+    requires { (tokens.now.count ≤ most_cells) × (tokens.now.count ≤ length fields.old) }
+    ensures read { told (all_of tokens.now) result fields.new
+        ≡ fields_of (labelled_form (labels_at (all_of tokens.now))) }
+    ensures few { IfOk result (Few tokens.now.count) }
 {
-    let c = labels(kinds, values, n);
-    if 2 * c == n {
-        return Form::Labels(c);
+    let c = labels(tokens);
+    if 2 * c == tokens.count {
+        return Ok(Form::Labels(c));
     }
-    match instruction(kinds, values, n, 2 * c, fields, 0) {
-        Instructed::Whole(a, m) => {
-            if a == n {
-                return Form::Instruction(c, m);
-            }
-            Form::Nothing
-        }
-        Instructed::Opening(b, k) => {
-            if b == n {
-                return Form::Opening(c, k);
-            }
-            Form::Nothing
-        }
-        Instructed::Missing => Form::Nothing,
+    match instruction(tokens, 2 * c, fields, 0) {
+        Some(Instructed::Whole(s)) if s.at == tokens.count => Ok(Form::Instruction(c, s.out)),
+        Some(Instructed::Opening(s)) if s.at == tokens.count => Ok(Form::Opening(c, s.out)),
+        _ => Err(Failure::NoForm),
     }
 }
 
 // Behind `%FINISH`.
-fn finishing(kinds: &[u8], values: &[u32], n: usize) -> Form
-    requires { 0 < n }
-    ensures read { Tells result (fields_of (behind_finish (left n 1 kinds.now values.now))) }
-    ensures few { Few n result }
+fn finishing(tokens: &Tokens<'_>) -> Result<Form, Failure>
+    requires { 0 < tokens.now.count }
+    ensures read { Tells result (fields_of (behind_finish (ahead tokens.now 1))) }
+    ensures few { IfOk result (Few tokens.now.count) }
 {
-    if mark_at(kinds, values, n, 1, MARK_ELSE) {
-        if mark_at(kinds, values, n, 2, MARK_START) {
-            if n == 3 {
-                return Form::FinishElse;
+    if tokens.mark_at(1, MARK_ELSE) {
+        if tokens.mark_at(2, MARK_START) {
+            if tokens.count == 3 {
+                return Ok(Form::FinishElse);
             }
-            return Form::Nothing;
         }
-        return Form::Nothing;
+        return Err(Failure::NoForm);
     }
-    if n == 1 {
-        return Form::Finish;
+    if tokens.count == 1 {
+        return Ok(Form::Finish);
     }
-    Form::Nothing
+    Err(Failure::NoForm)
 }
 
 // Whether n tokens are no more than a statement can have, and than an array has places.
 fn is_fit(n: usize, room: usize) -> bool
     ensures { result ≡ fit n room }
 {
-    if MOST_CELLS < n {
-        return false;
-    }
-    n <= room
+    n <= MOST_CELLS && n <= room
 }
 
-// The form of the statement whose tokens are the first n of two arrays.
-fn fit_form(kinds: &[u8], values: &[u32], n: usize, fields: &mut [u64]) -> Form
-    requires { (n ≤ most_cells) × (n ≤ length fields.old) }
-    ensures read { told (tokens_from 0 n kinds.now values.now) result fields.new
-        ≡ fields_of (form (tokens_from 0 n kinds.now values.now)) }
-    ensures few { Few n result }
+// The form of the statement that has these tokens.
+fn fit_form(tokens: &Tokens<'_>, fields: &mut [u64]) -> Result<Form, Failure>
+    requires { (tokens.now.count ≤ most_cells) × (tokens.now.count ≤ length fields.old) }
+    ensures read { told (all_of tokens.now) result fields.new ≡ fields_of (form (all_of tokens.now)) }
+    ensures few { IfOk result (Few tokens.now.count) }
 {
-    if mark_at(kinds, values, n, 0, MARK_BEGIN) {
-        if n == 1 {
-            return Form::Begin;
+    if tokens.mark_at(0, MARK_BEGIN) {
+        if tokens.count == 1 {
+            return Ok(Form::Begin);
         }
-        return Form::Nothing;
+        return Err(Failure::NoForm);
     }
-    if mark_at(kinds, values, n, 0, MARK_END) {
-        if n == 1 {
-            return Form::End;
+    if tokens.mark_at(0, MARK_END) {
+        if tokens.count == 1 {
+            return Ok(Form::End);
         }
-        return Form::Nothing;
+        return Err(Failure::NoForm);
     }
-    if mark_at(kinds, values, n, 0, MARK_INTEGER) {
-        if is_name_list(kinds, values, n, 1) {
-            return Form::Declaration;
+    if tokens.mark_at(0, MARK_INTEGER) {
+        if is_name_list(tokens, 1) {
+            return Ok(Form::Declaration);
         }
-        return Form::Nothing;
+        return Err(Failure::NoForm);
     }
-    if mark_at(kinds, values, n, 0, MARK_FINISH) {
-        return finishing(kinds, values, n);
+    if tokens.mark_at(0, MARK_FINISH) {
+        return finishing(tokens);
     }
-    labelled(kinds, values, n, fields)
+    labelled(tokens, fields)
 }
 
-// The same for any number of tokens and any array. A statement has no more tokens than the cells that it can hold, and no more
-// fields than tokens. Free is what the array holds behind the fields of an instruction, and all that it holds where there is
-// none.
-pub fn form_of(kinds: &[u8], values: &[u32], n: usize, fields: &mut [u64]) -> Form
+// The form of the statement whose tokens are the first n of two arrays, for any number of tokens and any array. A statement has no
+// more tokens than the cells that it can hold, and no more fields than tokens. Free is what the array holds behind the fields of an
+// instruction, and all that it holds where there is none.
+pub fn form_of(kinds: &[u8], values: &[u32], n: usize, fields: &mut [u64]) -> Result<Form, Failure>
     ensures read { told (tokens_from 0 n kinds.now values.now) result fields.new
         ≡ told_of n fields.old (tokens_from 0 n kinds.now values.now) }
-    ensures few { Few n result }
+    ensures few { IfOk result (Few n) }
     ensures kept { length fields.new ≡ length fields.old }
 {
     if is_fit(n, fields.len()) {
-        return fit_form(kinds, values, n, fields);
+        let tokens = Tokens {
+            kinds,
+            values,
+            count: n,
+        };
+        return fit_form(&tokens, fields);
     }
-    Form::Unfit
+    Err(Failure::Unfit)
 }

@@ -4,6 +4,7 @@ use mathlib.Core.Path.{◌≡◌, refl, ap, ap₂, ◌∙◌}
 use mathlib.Core.List.{List, [], ◌∷◌, ◌++◌, append_assoc}
 use native.Mathlib.Omega.{arith}
 use lib.ListN.{length}
+use Rattle.std.specs.Prelude.{Some, None}
 use Rattle.word.specs.declared.Relation.{Relation}
 use Rattle.sheet.specs.declared.Field.{Field}
 use Rattle.sheet.specs.declared.Field.TheVariants.{Compare as CompareField}
@@ -13,9 +14,9 @@ use Rattle.sheet.specs.Memory.{condition_fields}
 use Rattle.source.specs.declared.Token.{Token}
 use Rattle.source.specs.declared.Token.TheVariants.{Name, Number, Quoted, Binary, Compare, Mark}
 use Rattle.source.specs.Grammar.{Read, read, none, next, behind_first, expression, relation_at}
-use Rattle.grammar_look.specs.declared.Related.TheVariants.{By as RelatedBy, Missing as NoRelation}
-use Rattle.grammar_look.specs.Internal.{left, first_relation}
-use Rattle.grammar_look.proofs.Places.{left_behind}
+use Rattle.grammar_look.specs.declared.Tokens.{Tokens}
+use Rattle.grammar_look.specs.Internal.{ahead, first_relation}
+use Rattle.grammar_look.proofs.Places.{ahead_behind}
 use Rattle.grammar_output.specs.Internal.{written, insert_at}
 use Rattle.grammar_output.proofs.Shifting.{insert_at_seam}
 use Rattle.grammar_expression.specs.Internal.{expression_pass}
@@ -24,7 +25,7 @@ use Rattle.grammar_comparison.specs.Internal.{compared_pass, comparison_pass}
 
 -- ---- comparisons
 
-relation_none : (l : List Token) → first_relation l ≡ NoRelation → relation_at l ≡ none
+relation_none : (l : List Token) → first_relation l ≡ None → relation_at l ≡ none
 unfolding relation_at
 relation_none [] e = refl
 relation_none (Name w ∷ ts) e = refl
@@ -34,7 +35,7 @@ relation_none (Binary o ∷ ts) e = refl
 relation_none (Compare r ∷ ts) e = let z : ◌≡◌ {A = ℕ} 0 1 = cc in absurd (omega arith)
 relation_none (Mark m ∷ ts) e = refl
 
-relation_found : (l : List Token) (s : Relation) → first_relation l ≡ RelatedBy s → relation_at l ≡ read s (behind_first l)
+relation_found : (l : List Token) (s : Relation) → first_relation l ≡ Some s → relation_at l ≡ read s (behind_first l)
 unfolding relation_at behind_first
 relation_found [] s e = let z : ◌≡◌ {A = ℕ} 0 1 = cc in absurd (omega arith)
 relation_found (Name w ∷ ts) s e = let z : ◌≡◌ {A = ℕ} 0 1 = cc in absurd (omega arith)
@@ -55,47 +56,47 @@ module _ (fs : List Field) where
   first_missing (read a rest) e = let z : ◌≡◌ {A = ℕ} 0 1 = cc in absurd (omega arith)
 
   unrelated : (x : Read Expression) (gs : List Field) (rest : List Token) → read gs rest ≡ written expression_fields fs x
-      → first_relation rest ≡ NoRelation → none ≡ after_first x
+      → first_relation rest ≡ None → none ≡ after_first x
   unfolding written next after_first
   unrelated none gs rest e f = refl
   unrelated (read a l) gs rest e f =
       let same : rest ≡ l = cc in
-      let test : first_relation l ≡ NoRelation = rw same at f in
+      let test : first_relation l ≡ None = rw same at f in
       rw (relation_none l test) refl
 
   related : (x : Read Expression) (s : Relation) (p : ℕ) (gs hs : List Field) (rest : List Token)
-      → read gs rest ≡ written expression_fields fs x → first_relation rest ≡ RelatedBy s → length fs ≡ p
+      → read gs rest ≡ written expression_fields fs x → first_relation rest ≡ Some s → length fs ≡ p
       → hs ≡ insert_at p (CompareField s) gs → read hs (behind_first rest) ≡ after_first x
   unfolding written next after_first
   related none s p gs hs rest e f g h = let z : ◌≡◌ {A = ℕ} 0 1 = cc in absurd (omega arith)
   related (read a l) s p gs hs rest e f g h =
       let same : rest ≡ l = cc in
       let all : gs ≡ fs ++ expression_fields a = cc in
-      let test : first_relation l ≡ RelatedBy s = rw same at f in
+      let test : first_relation l ≡ Some s = rw same at f in
       rw (relation_found l s test)
       (ap₂ (λ x y. read x (behind_first y)) (h ∙ ap (insert_at p (CompareField s)) all ∙ insert_at_seam fs (expression_fields a) p (CompareField s) g) same)
 
-  module _ (ks vs : List ℕ) (n at : ℕ) where
-    pub compared_missing : none ≡ expression_pass fs (left n at ks vs)
-        → none ≡ compared_pass fs (left n at ks vs)
+  module _ (toks : Tokens) (at : ℕ) where
+    pub compared_missing : none ≡ expression_pass fs (ahead toks at)
+        → none ≡ compared_pass fs (ahead toks at)
     unfolding after_first
-    compared_missing h = first_missing (expression (left n at ks vs)) h
+    compared_missing h = first_missing (expression (ahead toks at)) h
 
     pub compared_unrelated : (gs : List Field) (rest : List Token)
-        → read gs rest ≡ expression_pass fs (left n at ks vs)
-        → first_relation rest ≡ NoRelation → none ≡ compared_pass fs (left n at ks vs)
+        → read gs rest ≡ expression_pass fs (ahead toks at)
+        → first_relation rest ≡ None → none ≡ compared_pass fs (ahead toks at)
     unfolding after_first
     compared_unrelated gs rest h f =
-        unrelated (expression (left n at ks vs)) gs rest h f
+        unrelated (expression (ahead toks at)) gs rest h f
 
     pub compared_found : (s : Relation) (p a : ℕ) (gs hs : List Field)
-        → read gs (left n a ks vs) ≡ expression_pass fs (left n at ks vs)
-        → first_relation (left n a ks vs) ≡ RelatedBy s → a < n → length fs ≡ p → hs ≡ insert_at p (CompareField s) gs
-        → read hs (left n (a + 1) ks vs) ≡ compared_pass fs (left n at ks vs)
+        → read gs (ahead toks a) ≡ expression_pass fs (ahead toks at)
+        → first_relation (ahead toks a) ≡ Some s → a < toks.count → length fs ≡ p → hs ≡ insert_at p (CompareField s) gs
+        → read hs (ahead toks (a + 1)) ≡ compared_pass fs (ahead toks at)
     unfolding after_first
     compared_found s p a gs hs h f i g e =
-        ap (λ l. read hs l) (left_behind ks vs n a i)
-        ∙ related (expression (left n at ks vs)) s p gs hs (left n a ks vs) h f g e
+        ap (λ l. read hs l) (ahead_behind toks a i)
+        ∙ related (expression (ahead toks at)) s p gs hs (ahead toks a) h f g e
 
 -- ---- the second expression
 
@@ -125,13 +126,13 @@ module _ (fs : List Field) where
   first_fields none = refl
   first_fields (read a behind) = related_fields a (relation_at behind)
 
-  module _ (ks vs : List ℕ) (n at : ℕ) where
-    pub comparison_missing : none ≡ compared_pass fs (left n at ks vs) → none ≡ comparison_pass fs (left n at ks vs)
+  module _ (toks : Tokens) (at : ℕ) where
+    pub comparison_missing : none ≡ compared_pass fs (ahead toks at) → none ≡ comparison_pass fs (ahead toks at)
     comparison_missing e =
-        then_missing (compared_pass fs (left n at ks vs)) (λ g l. expression_pass g l) e ∙ first_fields (expression (left n at ks vs))
+        then_missing (compared_pass fs (ahead toks at)) (λ g l. expression_pass g l) e ∙ first_fields (expression (ahead toks at))
 
-    pub comparison_read : (a : ℕ) (gs : List Field) (r : Read (List Field)) → read gs (left n a ks vs) ≡ compared_pass fs (left n at ks vs)
-        → r ≡ expression_pass gs (left n a ks vs) → r ≡ comparison_pass fs (left n at ks vs)
+    pub comparison_read : (a : ℕ) (gs : List Field) (r : Read (List Field)) → read gs (ahead toks a) ≡ compared_pass fs (ahead toks at)
+        → r ≡ expression_pass gs (ahead toks a) → r ≡ comparison_pass fs (ahead toks at)
     comparison_read a gs r e h =
-        then_found (compared_pass fs (left n at ks vs)) (λ g l. expression_pass g l) gs (left n a ks vs) r e h
-        ∙ first_fields (expression (left n at ks vs))
+        then_found (compared_pass fs (ahead toks at)) (λ g l. expression_pass g l) gs (ahead toks a) r e h
+        ∙ first_fields (expression (ahead toks at))

@@ -5,28 +5,27 @@ use mathlib.Core.Bool.{Bool, true, false, false≢true}
 use mathlib.Core.List.{List, [], ◌∷◌}
 use native.Mathlib.Omega.{arith}
 use native.Mathlib.Numerals.{add-one}
-use lib.ListN.{get_or}
+use Rattle.std.specs.Prelude.{Option, Some, None, SomeIff, is_some}
 use Rattle.base.specs.Choice.{pick}
 use Rattle.base.proofs.Cases.{pick_yes, pick_no, by_less}
-use Rattle.word.specs.declared.Relation.{Relation}
 use Rattle.source.specs.declared.Token.{Token}
 use Rattle.source.specs.declared.Token.TheVariants.{Name, Number, Quoted, Binary, Compare, Mark}
 use Rattle.source.specs.Tokens.{mark_open, mark_close}
-use Rattle.source.specs.Memory.{token_of}
 use Rattle.source.specs.Grammar.{is_mark, opens, behind_first, outwards, holds_relation, opens_condition}
-use Rattle.grammar_look.specs.declared.Related.TheVariants.{By as RelatedBy, Missing as NoRelation}
-use Rattle.grammar_look.specs.Internal.{left, first_relation}
-use Rattle.grammar_look.proofs.Places.{left_none, left_one, left_behind}
+use Rattle.grammar_look.specs.declared.Tokens.{Tokens}
+use Rattle.grammar_look.specs.Internal.{token_at, ahead, first_relation}
+use Rattle.grammar_comparison.specs.Internal.{holds_from}
+use Rattle.grammar_look.proofs.Places.{ahead_none, ahead_one, ahead_behind}
 
-relation_seen : (d : ℕ) (ts : List Token) (r : Relation) → first_relation ts ≡ RelatedBy r → true ≡ holds_relation d ts
+relation_seen : (d : ℕ) (ts : List Token) → is_some (first_relation ts) ≡ true → true ≡ holds_relation d ts
 unfolding holds_relation
-relation_seen d [] r e = let z : ◌≡◌ {A = ℕ} 0 1 = cc in absurd (omega arith)
-relation_seen d (Name w ∷ ts) r e = let z : ◌≡◌ {A = ℕ} 0 1 = cc in absurd (omega arith)
-relation_seen d (Number m ∷ ts) r e = let z : ◌≡◌ {A = ℕ} 0 1 = cc in absurd (omega arith)
-relation_seen d (Quoted m ∷ ts) r e = let z : ◌≡◌ {A = ℕ} 0 1 = cc in absurd (omega arith)
-relation_seen d (Binary o ∷ ts) r e = let z : ◌≡◌ {A = ℕ} 0 1 = cc in absurd (omega arith)
-relation_seen d (Compare s ∷ ts) r e = refl
-relation_seen d (Mark m ∷ ts) r e = let z : ◌≡◌ {A = ℕ} 0 1 = cc in absurd (omega arith)
+relation_seen d [] e = let z : ◌≡◌ {A = ℕ} 0 1 = cc in absurd (omega arith)
+relation_seen d (Name w ∷ ts) e = let z : ◌≡◌ {A = ℕ} 0 1 = cc in absurd (omega arith)
+relation_seen d (Number m ∷ ts) e = let z : ◌≡◌ {A = ℕ} 0 1 = cc in absurd (omega arith)
+relation_seen d (Quoted m ∷ ts) e = let z : ◌≡◌ {A = ℕ} 0 1 = cc in absurd (omega arith)
+relation_seen d (Binary o ∷ ts) e = let z : ◌≡◌ {A = ℕ} 0 1 = cc in absurd (omega arith)
+relation_seen d (Compare s ∷ ts) e = refl
+relation_seen d (Mark m ∷ ts) e = let z : ◌≡◌ {A = ℕ} 0 1 = cc in absurd (omega arith)
 
 open_seen : (d : ℕ) (ts : List Token) → opens mark_open ts ≡ true → holds_relation (d + 1) (behind_first ts) ≡ holds_relation d ts
 unfolding holds_relation opens behind_first
@@ -50,7 +49,7 @@ close_seen d (Binary o ∷ ts) f e = let z : ◌≡◌ {A = ℕ} 0 1 = cc in abs
 close_seen d (Compare s ∷ ts) f e = let z : ◌≡◌ {A = ℕ} 0 1 = cc in absurd (omega arith)
 close_seen d (Mark m ∷ ts) f e = pick_no _ _ _ _ f (pick_yes _ _ _ _ e refl)
 
-other_seen : (d : ℕ) (ts : List Token) → first_relation ts ≡ NoRelation → opens mark_open ts ≡ false → opens mark_close ts ≡ false
+other_seen : (d : ℕ) (ts : List Token) → first_relation ts ≡ None → opens mark_open ts ≡ false → opens mark_close ts ≡ false
     → holds_relation d (behind_first ts) ≡ holds_relation d ts
 unfolding holds_relation opens behind_first
 other_seen d [] e f g = refl
@@ -69,32 +68,39 @@ outer : (d : ℕ) (test : ℕ → Bool) → (d ≡ 0 → ⊥) → test (d - 1) �
 outer zero test e = absurd (e refl)
 outer (suc d) test e = let less : suc d - 1 ≡ d = omega arith in ap test less
 
-module _ (ks vs : List ℕ) (n at d : ℕ) where
-  pub sees_relation : (r : Relation) → first_relation (left n at ks vs) ≡ RelatedBy r → true ≡ holds_relation d (left n at ks vs)
-  sees_relation r e = relation_seen d (left n at ks vs) r e
+module _ (toks : Tokens) (at d : ℕ) where
+  pub sees_relation : is_some (first_relation (ahead toks at)) ≡ true → true ≡ holds_relation d (ahead toks at)
+  sees_relation e = relation_seen d (ahead toks at) e
 
-  pub sees_open : at < n → opens mark_open (left n at ks vs) ≡ true
-      → holds_relation (d + 1) (left n (at + 1) ks vs) ≡ holds_relation d (left n at ks vs)
-  sees_open h e = ap (holds_relation (d + 1)) (left_behind ks vs n at h) ∙ open_seen d (left n at ks vs) e
+  pub sees_open : at < toks.count → opens mark_open (ahead toks at) ≡ true
+      → holds_relation (d + 1) (ahead toks (at + 1)) ≡ holds_relation d (ahead toks at)
+  sees_open h e = ap (holds_relation (d + 1)) (ahead_behind toks at h) ∙ open_seen d (ahead toks at) e
 
-  pub sees_end : opens mark_open (left n at ks vs) ≡ false → opens mark_close (left n at ks vs) ≡ true → d ≡ 0
-      → false ≡ holds_relation d (left n at ks vs)
-  sees_end f e z = inner_end d (λ k. holds_relation k (behind_first (left n at ks vs))) z ∙ close_seen d (left n at ks vs) f e
+  sees_end : opens mark_open (ahead toks at) ≡ false → opens mark_close (ahead toks at) ≡ true → d ≡ 0
+      → false ≡ holds_relation d (ahead toks at)
+  sees_end f e z = inner_end d (λ k. holds_relation k (behind_first (ahead toks at))) z ∙ close_seen d (ahead toks at) f e
 
-  pub sees_close : at < n → opens mark_open (left n at ks vs) ≡ false → opens mark_close (left n at ks vs) ≡ true → (d ≡ 0 → ⊥)
-      → holds_relation (d - 1) (left n (at + 1) ks vs) ≡ holds_relation d (left n at ks vs)
+  sees_close : at < toks.count → opens mark_open (ahead toks at) ≡ false → opens mark_close (ahead toks at) ≡ true → (d ≡ 0 → ⊥)
+      → holds_relation (d - 1) (ahead toks (at + 1)) ≡ holds_relation d (ahead toks at)
   sees_close h f e z =
-      ap (holds_relation (d - 1)) (left_behind ks vs n at h)
-      ∙ outer d (λ k. holds_relation k (behind_first (left n at ks vs))) z
-      ∙ close_seen d (left n at ks vs) f e
+      ap (holds_relation (d - 1)) (ahead_behind toks at h)
+      ∙ outer d (λ k. holds_relation k (behind_first (ahead toks at))) z
+      ∙ close_seen d (ahead toks at) f e
 
-  pub sees_other : at < n → first_relation (left n at ks vs) ≡ NoRelation → opens mark_open (left n at ks vs) ≡ false
-      → opens mark_close (left n at ks vs) ≡ false → holds_relation d (left n (at + 1) ks vs) ≡ holds_relation d (left n at ks vs)
-  sees_other h e f g = ap (holds_relation d) (left_behind ks vs n at h) ∙ other_seen d (left n at ks vs) e f g
+  -- a closing bracket, of the innermost that is open or of the one round them
+  pub sees_closing : (o : Option ℕ) → at < toks.count → opens mark_open (ahead toks at) ≡ false → opens mark_close (ahead toks at) ≡ true
+      → SomeIff o (1 ≤ d) (d - 1) → holds_from o (ahead toks (at + 1)) ≡ holds_relation d (ahead toks at)
+  sees_closing None h f e p = sees_end f e (omega (arith, p))
+  sees_closing (Some x) h f e p =
+      ap (λ k. holds_relation k (ahead toks (at + 1))) p.1 ∙ sees_close h f e (λ z. absurd (omega (arith, p.0, z)))
 
-  pub sees_nothing : n ≤ at → false ≡ holds_relation d (left n at ks vs)
+  pub sees_other : at < toks.count → first_relation (ahead toks at) ≡ None → opens mark_open (ahead toks at) ≡ false
+      → opens mark_close (ahead toks at) ≡ false → holds_relation d (ahead toks (at + 1)) ≡ holds_relation d (ahead toks at)
+  sees_other h e f g = ap (holds_relation d) (ahead_behind toks at h) ∙ other_seen d (ahead toks at) e f g
+
+  pub sees_nothing : toks.count ≤ at → false ≡ holds_relation d (ahead toks at)
   unfolding holds_relation
-  sees_nothing h = rw (left_none ks vs n at h) refl
+  sees_nothing h = rw (ahead_none toks at h) refl
 
 lone_token : (t : Token) → opens_condition (t ∷ []) ≡ false
 unfolding opens_condition opens behind_first pick holds_relation
@@ -108,21 +114,21 @@ no_token : opens_condition [] ≡ false
 unfolding opens_condition opens pick
 no_token = refl
 
-module _ (ks vs : List ℕ) (n at : ℕ) where
-  pub bracket_opens : (b : Bool) → at < n → opens mark_open (left n at ks vs) ≡ true → b ≡ holds_relation 0 (left n (at + 1) ks vs)
-      → b ≡ opens_condition (left n at ks vs)
+module _ (toks : Tokens) (at : ℕ) where
+  pub bracket_opens : (b : Bool) → at < toks.count → opens mark_open (ahead toks at) ≡ true → b ≡ holds_relation 0 (ahead toks (at + 1))
+      → b ≡ opens_condition (ahead toks at)
   unfolding opens_condition
-  bracket_opens b h e f = pick_yes _ _ _ _ e (f ∙ ap (holds_relation 0) (left_behind ks vs n at h))
+  bracket_opens b h e f = pick_yes _ _ _ _ e (f ∙ ap (holds_relation 0) (ahead_behind toks at h))
 
-  pub no_bracket : opens mark_open (left n at ks vs) ≡ false → false ≡ opens_condition (left n at ks vs)
+  pub no_bracket : opens mark_open (ahead toks at) ≡ false → false ≡ opens_condition (ahead toks at)
   unfolding opens_condition
   no_bracket e = pick_no _ _ _ _ e refl
 
   -- two tokens at least stand where a condition's bracket opens
-  pub opens_inside : opens_condition (left n at ks vs) ≡ true → at + 1 < n
+  pub opens_inside : opens_condition (ahead toks at) ≡ true → at + 1 < toks.count
   opens_inside e =
-      by_less (at + 1) n (λ l. l)
-      (λ g. by_less at n
-      (λ l. let one : n - at ≡ 1 = omega (arith, g, l) in
-      absurd (false≢true (sym (lone_token (token_of (get_or ks at 0) (get_or vs at 0))) ∙ ap opens_condition (sym (left_one ks vs n at l one)) ∙ e)))
-      (λ l. absurd (false≢true (sym no_token ∙ ap opens_condition (sym (left_none ks vs n at l)) ∙ e))))
+      by_less (at + 1) toks.count (λ l. l)
+      (λ g. by_less at toks.count
+      (λ l. let one : toks.count - at ≡ 1 = omega (arith, g, l) in
+      absurd (false≢true (sym (lone_token (token_at toks at)) ∙ ap opens_condition (sym (ahead_one toks at l one)) ∙ e)))
+      (λ l. absurd (false≢true (sym no_token ∙ ap opens_condition (sym (ahead_none toks at l)) ∙ e))))

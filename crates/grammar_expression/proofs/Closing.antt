@@ -5,6 +5,7 @@ use mathlib.Core.Bool.{true, false}
 use mathlib.Core.List.{List, ◌++◌}
 use native.Mathlib.Omega.{arith}
 use Rattle.base.specs.Choice.{pick}
+use Rattle.std.specs.Prelude.{Option, Some, None}
 use Rattle.sheet.specs.declared.Field.{Field}
 use Rattle.sheet.specs.Sheet.{Expression}
 use Rattle.sheet.specs.Fields.{expression_fields}
@@ -12,7 +13,6 @@ use Rattle.source.specs.declared.Token.{Token}
 use Rattle.source.specs.Tokens.{mark_close}
 use Rattle.source.specs.Grammar.{Read, read, none, next, past, opens, behind_first}
 use Rattle.grammar_output.specs.declared.Step.{Step}
-use Rattle.grammar_output.specs.declared.Step.TheVariants.{At, Missing}
 use Rattle.grammar_output.specs.Internal.{written, Moved}
 
 module _ (fs : List Field) where
@@ -44,7 +44,7 @@ module _ (fs : List Field) where
       rw test refl
 
 -- what was read from a later place on
-pub moved_later : (d e n at out at₁ out₁ : ℕ) (r : Step) → Moved d n at₁ out₁ r → at + e ≤ at₁ + d → out ≤ out₁
+pub moved_later : (d e n at out at₁ out₁ : ℕ) (r : Option Step) → Moved d n at₁ out₁ r → at + e ≤ at₁ + d → out ≤ out₁
     → out₁ + at ≤ at₁ + out → Moved e n at out r
-moved_later d e n at out at₁ out₁ (At a o) m h g f = (omega (arith, m, h), m.1, omega (arith, m, g), omega (arith, m, f))
-moved_later d e n at out at₁ out₁ Missing m h g f = tt
+moved_later d e n at out at₁ out₁ (Some s) m h g f = (omega (arith, m, h), m.1, omega (arith, m, g), omega (arith, m, f))
+moved_later d e n at out at₁ out₁ None m h g f = tt

@@ -4,35 +4,34 @@ use mathlib.Core.Path.{◌≡◌, ap, ◌∙◌}
 use mathlib.Core.List.{List}
 use native.Mathlib.Omega.{arith}
 use lib.ListN.{length}
+use Rattle.std.specs.Prelude.{Some}
 use Rattle.sheet.specs.declared.Field.{Field}
 use Rattle.source.specs.Limits.{most_cells}
 use Rattle.source.specs.Grammar.{Read}
-use Rattle.grammar_output.specs.declared.Step.TheVariants.{At}
-use Rattle.grammar_output.specs.Internal.{Moved}
+use Rattle.grammar_look.specs.declared.Tokens.{Tokens}
 use Rattle.grammar_lead.specs.declared.Opened.{Opened}
 use Rattle.grammar_lead.specs.Internal.{OpenedAs}
 use Rattle.grammar_operand.specs.declared.Reading.{Reading}
-use Rattle.grammar_operand.specs.declared.Found.TheVariants.{At as FoundAt}
 use Rattle.grammar_operand.specs.Internal.{links_pass, begun_at, Onward, Reached}
 
 -- the links and closing brackets behind an operand, from reading s₀ on
-pub record Following (n : ℕ) (ks vs fs₀ stack₀ : List ℕ) (s₀ : Reading) (fs stack : List ℕ) (s : Reading) : Type 0 where
+pub record Following (toks : Tokens) (fs₀ stack₀ : List ℕ) (s₀ : Reading) (fs stack : List ℕ) (s : Reading) : Type 0 where
   pub on : s₀.at ≤ s.at
-  pub inside : s.at ≤ n
+  pub inside : s.at ≤ toks.count
   pub wider : s₀.out ≤ s.out
   pub few : s.depth + s.out + s₀.at ≤ s.at + s₀.depth + s₀.out
   pub fewer : s.depth + s.out ≤ s.at
   pub long : length fs ≡ length fs₀
   pub deep : length stack ≡ most_cells
   pub some : Read (List Field)
-  pub reached : Reached links_pass n ks vs fs stack s some
-  pub to_come : (all : Read (List Field)) → Reached links_pass n ks vs fs₀ stack₀ s₀ all → Reached links_pass n ks vs fs stack s all
+  pub reached : Reached links_pass toks fs stack s some
+  pub to_come : (all : Read (List Field)) → Reached links_pass toks fs₀ stack₀ s₀ all → Reached links_pass toks fs stack s all
 
-pub following_on : (n : ℕ) (ks vs fs₀ stack₀ : List ℕ) (s₀ : Reading) (fs stack fs₁ stack₁ : List ℕ) (s t : Reading)
-    → Following n ks vs fs₀ stack₀ s₀ fs stack s → Onward n s (FoundAt t) → length fs₁ ≡ length fs → length stack₁ ≡ length stack
-    → ((all : Read (List Field)) → Reached links_pass n ks vs fs stack s all → Reached links_pass n ks vs fs₁ stack₁ t all)
-    → Following n ks vs fs₀ stack₀ s₀ fs₁ stack₁ t
-following_on n ks vs fs₀ stack₀ s₀ fs stack fs₁ stack₁ s t i o long deep f =
+pub following_on : (toks : Tokens) (fs₀ stack₀ : List ℕ) (s₀ : Reading) (fs stack fs₁ stack₁ : List ℕ) (s t : Reading)
+    → Following toks fs₀ stack₀ s₀ fs stack s → Onward toks.count s (Some t) → length fs₁ ≡ length fs → length stack₁ ≡ length stack
+    → ((all : Read (List Field)) → Reached links_pass toks fs stack s all → Reached links_pass toks fs₁ stack₁ t all)
+    → Following toks fs₀ stack₀ s₀ fs₁ stack₁ t
+following_on toks fs₀ stack₀ s₀ fs stack fs₁ stack₁ s t i o long deep f =
     record {
       on = omega (arith, i.on, o);
       inside = o.1;
@@ -47,24 +46,10 @@ following_on n ks vs fs₀ stack₀ s₀ fs stack fs₁ stack₁ s t i o long de
     }
 
 -- behind the first operand
-pub first_fewer : (n at out : ℕ) (ks vs fs fs₁ : List ℕ) (o : Opened) (b s : Reading) → b ≡ begun_at out o 0 → out ≤ at
-    → OpenedAs n at out ks vs fs o fs₁ → Onward n b (FoundAt s) → s.depth + s.out ≤ s.at
-first_fewer n at out ks vs fs fs₁ o b s e h opened m =
+pub first_fewer : (toks : Tokens) (at out : ℕ) (fs fs₁ : List ℕ) (o : Opened) (b s : Reading) → b ≡ begun_at out o 0 → out ≤ at
+    → OpenedAs toks at out fs o fs₁ → Onward toks.count b (Some s) → s.depth + s.out ≤ s.at
+first_fewer toks at out fs fs₁ o b s e h opened m =
     let p : b.at ≡ o.at = ap (λ r. r.at) e in
     let q : b.out ≡ o.out = ap (λ r. r.out) e in
     let d : b.depth ≡ 0 = ap (λ r. r.depth) e in
     omega (arith, p, q, d, m, h, opened.few)
-
--- a whole expression was read
-pub whole_moved : (n at out : ℕ) (ks vs fs fs₁ : List ℕ) (o : Opened) (b s t : Reading) → b ≡ begun_at out o 0
-    → OpenedAs n at out ks vs fs o fs₁ → Onward n b (FoundAt s) → s.at ≤ t.at → t.at ≤ n → s.out ≤ t.out
-    → t.depth + t.out + s.at ≤ t.at + s.depth + s.out → Moved 1 n at out (At t.at t.out)
-whole_moved n at out ks vs fs fs₁ o b s t e opened m on inside wider few =
-    let p : b.at ≡ o.at = ap (λ r. r.at) e in
-    let q : b.out ≡ o.out = ap (λ r. r.out) e in
-    let d : b.depth ≡ 0 = ap (λ r. r.depth) e in (
-      omega (arith, p, m, on, opened.on),
-      inside,
-      omega (arith, q, m, wider, opened.wider),
-      omega (arith, p, q, d, m, few, opened.few),
-    )

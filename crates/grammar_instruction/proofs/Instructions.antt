@@ -3,6 +3,7 @@ use Prim.Native.Nat.{ℕ, ◌+◌, ◌<◌, ◌≤◌}
 use mathlib.Core.Path.{◌≡◌, refl, ap, ◌∙◌}
 use mathlib.Core.Bool.{Bool, true, false}
 use mathlib.Core.List.{List, [], ◌∷◌, ◌++◌, append_assoc}
+use Rattle.std.specs.Prelude.{Option, Some, None, option_map}
 use Rattle.base.specs.Choice.{pick}
 use Rattle.sheet.specs.declared.Field.{Field}
 use Rattle.sheet.specs.declared.Field.TheVariants.{Else, Start, Finish, If}
@@ -14,18 +15,16 @@ use Rattle.source.specs.Tokens.{mark_if, mark_then, mark_else, mark_start}
 use Rattle.source.specs.Grammar.{Read, read, none, next, past, opens, behind_first, simple_at, condition_at}
 use Rattle.source.specs.Grammar.{Instruction, simple, if_then, if_else, if_start, chosen, consequent}
 use Rattle.source.specs.Fields.{instruction_fields}
-use Rattle.grammar_look.specs.Internal.{left}
-use Rattle.grammar_look.proofs.Places.{left_behind}
+use Rattle.grammar_look.specs.declared.Tokens.{Tokens}
+use Rattle.grammar_look.specs.Internal.{ahead}
+use Rattle.grammar_look.proofs.Places.{ahead_behind}
 use Rattle.grammar_output.specs.declared.Step.{Step}
-use Rattle.grammar_output.specs.declared.Step.TheVariants.{At, Missing as NoStep}
-use Rattle.grammar_output.specs.Internal.{written, Moved}
+use Rattle.grammar_output.specs.Internal.{written}
 use Rattle.grammar_expression.specs.Internal.{stepped}
-use Rattle.grammar_expression.proofs.Closing.{moved_later}
 use Rattle.grammar_simple.specs.Internal.{simple_pass}
 use Rattle.grammar_condition.specs.Internal.{condition_pass}
-use Rattle.grammar_instruction.specs.declared.Instructed.{Instructed}
-use Rattle.grammar_instruction.specs.declared.Instructed.TheVariants.{Whole, Opening, Missing}
-use Rattle.grammar_instruction.specs.Internal.{Output, whole, opening, output_in, whole_of, MovedOn, output_of}
+use Rattle.grammar_instruction.specs.declared.Instructed.TheVariants.{Whole}
+use Rattle.grammar_instruction.specs.Internal.{Output, whole, opening, output_in, output_of}
 use Rattle.grammar_instruction.specs.Internal.{alternative_pass, otherwise_pass, lone_pass, whole_pass, consequent_pass, conditional_pass, instruction_pass}
 
 -- ---- what the passes come to
@@ -110,20 +109,11 @@ module _ (fs : List Field) where
 
 -- ---- steps
 
-whole_in : (n : ℕ) (ks vs ws : List ℕ) (s : Step) → output_in n ks vs (whole_of s) ws ≡ whole_pass (stepped n ks vs s ws)
+-- a whole instruction, or none
+whole_in : (toks : Tokens) (ws : List ℕ) (s : Option Step) → output_in toks (option_map Whole s) ws ≡ whole_pass (stepped toks s ws)
 unfolding next
-whole_in n ks vs ws (At a o) = refl
-whole_in n ks vs ws NoStep = refl
-
-pub whole_moved : (d n at out : ℕ) (s : Step) → Moved d n at out s → MovedOn d n at out (whole_of s)
-whole_moved d n at out (At a o) m = m
-whole_moved d n at out NoStep m = tt
-
-pub moved_on : (d e n at out at₁ out₁ : ℕ) (r : Instructed) → MovedOn d n at₁ out₁ r → at + e ≤ at₁ + d → out ≤ out₁
-    → out₁ + at ≤ at₁ + out → MovedOn e n at out r
-moved_on d e n at out at₁ out₁ (Whole a o) m h g f = moved_later d e n at out at₁ out₁ (At a o) m h g f
-moved_on d e n at out at₁ out₁ (Opening a o) m h g f = moved_later d e n at out at₁ out₁ (At a o) m h g f
-moved_on d e n at out at₁ out₁ Missing m h g f = tt
+whole_in toks ws (Some s) = refl
+whole_in toks ws None = refl
 
 -- ---- the returns
 
@@ -137,57 +127,57 @@ module _ (fs gs : List Field) (ts : List Token) (put : gs ≡ fs ++ (Else ∷ []
   unfolding next
   alternative_found hs ks rest e f = rw (← put, ← e) (ap (λ l. read l rest) f)
 
-module _ (ks vs : List ℕ) (n at : ℕ) (fs : List Field) where
-  pub else_found : (r : Read (List Field)) → opens mark_else (left n at ks vs) ≡ true → at < n
-      → r ≡ alternative_pass fs (left n (at + 1) ks vs) → r ≡ otherwise_pass fs (left n at ks vs)
+module _ (toks : Tokens) (at : ℕ) (fs : List Field) where
+  pub else_found : (r : Read (List Field)) → opens mark_else (ahead toks at) ≡ true → at < toks.count
+      → r ≡ alternative_pass fs (ahead toks (at + 1)) → r ≡ otherwise_pass fs (ahead toks at)
   unfolding pick
-  else_found r o h e = rw o (e ∙ ap (alternative_pass fs) (left_behind ks vs n at h))
+  else_found r o h e = rw o (e ∙ ap (alternative_pass fs) (ahead_behind toks at h))
 
-  pub no_else : (gs : List Field) → opens mark_else (left n at ks vs) ≡ false → gs ≡ fs ++ (Finish ∷ [])
-      → read gs (left n at ks vs) ≡ otherwise_pass fs (left n at ks vs)
+  pub no_else : (gs : List Field) → opens mark_else (ahead toks at) ≡ false → gs ≡ fs ++ (Finish ∷ [])
+      → read gs (ahead toks at) ≡ otherwise_pass fs (ahead toks at)
   unfolding pick
-  no_else gs o e = rw o (ap (λ l. read l (left n at ks vs)) e)
+  no_else gs o e = rw o (ap (λ l. read l (ahead toks at)) e)
 
-  pub start_found : opens mark_start (left n at ks vs) ≡ true → at < n
-      → read (opening fs) (left n (at + 1) ks vs) ≡ consequent_pass fs (left n at ks vs)
+  pub start_found : opens mark_start (ahead toks at) ≡ true → at < toks.count
+      → read (opening fs) (ahead toks (at + 1)) ≡ consequent_pass fs (ahead toks at)
   unfolding pick
-  start_found o h = rw o (ap (λ l. read (opening fs) l) (left_behind ks vs n at h))
+  start_found o h = rw o (ap (λ l. read (opening fs) l) (ahead_behind toks at h))
 
-  pub no_start_law : (s : Step) (ws : List ℕ) → opens mark_start (left n at ks vs) ≡ false
-      → stepped n ks vs s ws ≡ lone_pass fs (left n at ks vs) → output_in n ks vs (whole_of s) ws ≡ consequent_pass fs (left n at ks vs)
+  pub no_start_law : (s : Option Step) (ws : List ℕ) → opens mark_start (ahead toks at) ≡ false
+      → stepped toks s ws ≡ lone_pass fs (ahead toks at) → output_in toks (option_map Whole s) ws ≡ consequent_pass fs (ahead toks at)
   unfolding pick
-  no_start_law s ws o e = rw o (whole_in n ks vs ws s ∙ ap whole_pass e)
+  no_start_law s ws o e = rw o (whole_in toks ws s ∙ ap whole_pass e)
 
   module _ (gs : List Field) (put : gs ≡ fs ++ (If ∷ [])) where
-    pub condition_missing : none ≡ condition_pass gs (left n at ks vs) → none ≡ conditional_pass fs (left n at ks vs)
+    pub condition_missing : none ≡ condition_pass gs (ahead toks at) → none ≡ conditional_pass fs (ahead toks at)
     unfolding next
     condition_missing e = rw (← put, ← e) refl
 
-    module _ (a : ℕ) (hs : List Field) (found : read hs (left n a ks vs) ≡ condition_pass gs (left n at ks vs)) where
-      behind_condition : past mark_then (left n a ks vs) (λ m. consequent_pass (hs ++ (Start ∷ [])) m) ≡ conditional_pass fs (left n at ks vs)
+    module _ (a : ℕ) (hs : List Field) (found : read hs (ahead toks a) ≡ condition_pass gs (ahead toks at)) where
+      behind_condition : past mark_then (ahead toks a) (λ m. consequent_pass (hs ++ (Start ∷ [])) m) ≡ conditional_pass fs (ahead toks at)
       unfolding next
       behind_condition = rw (← put, ← found) refl
 
-      pub no_then : opens mark_then (left n a ks vs) ≡ false → none ≡ conditional_pass fs (left n at ks vs)
+      pub no_then : opens mark_then (ahead toks a) ≡ false → none ≡ conditional_pass fs (ahead toks at)
       unfolding pick
       no_then o = rw o at behind_condition
 
-      pub then_read : (is : List Field) (r : Read Output) → opens mark_then (left n a ks vs) ≡ true → a < n → is ≡ hs ++ (Start ∷ [])
-          → r ≡ consequent_pass is (left n (a + 1) ks vs) → r ≡ conditional_pass fs (left n at ks vs)
+      pub then_read : (is : List Field) (r : Read Output) → opens mark_then (ahead toks a) ≡ true → a < toks.count → is ≡ hs ++ (Start ∷ [])
+          → r ≡ consequent_pass is (ahead toks (a + 1)) → r ≡ conditional_pass fs (ahead toks at)
       unfolding pick
       then_read is r o h f e =
-          let there : consequent_pass (hs ++ (Start ∷ [])) (behind_first (left n a ks vs)) ≡ conditional_pass fs (left n at ks vs) =
+          let there : consequent_pass (hs ++ (Start ∷ [])) (behind_first (ahead toks a)) ≡ conditional_pass fs (ahead toks at) =
           rw o at behind_condition in
-          e ∙ rw (f, left_behind ks vs n a h) there
+          e ∙ rw (f, ahead_behind toks a h) there
 
-  pub if_read : (r : Read Output) → opens mark_if (left n at ks vs) ≡ true → at < n → r ≡ conditional_pass fs (left n (at + 1) ks vs)
-      → r ≡ instruction_pass fs (left n at ks vs)
+  pub if_read : (r : Read Output) → opens mark_if (ahead toks at) ≡ true → at < toks.count → r ≡ conditional_pass fs (ahead toks (at + 1))
+      → r ≡ instruction_pass fs (ahead toks at)
   unfolding pick
   if_read r o h e =
       rw o
-      (e ∙ ap (conditional_pass fs) (left_behind ks vs n at h) ∙ asked_part fs (condition_at (behind_first (left n at ks vs))))
+      (e ∙ ap (conditional_pass fs) (ahead_behind toks at h) ∙ asked_part fs (condition_at (behind_first (ahead toks at))))
 
-  pub simple_read_law : (s : Step) (ws : List ℕ) → opens mark_if (left n at ks vs) ≡ false
-      → stepped n ks vs s ws ≡ simple_pass fs (left n at ks vs) → output_in n ks vs (whole_of s) ws ≡ instruction_pass fs (left n at ks vs)
+  pub simple_read_law : (s : Option Step) (ws : List ℕ) → opens mark_if (ahead toks at) ≡ false
+      → stepped toks s ws ≡ simple_pass fs (ahead toks at) → output_in toks (option_map Whole s) ws ≡ instruction_pass fs (ahead toks at)
   unfolding pick
-  simple_read_law s ws o e = rw o (whole_in n ks vs ws s ∙ ap whole_pass e ∙ simple_part fs (simple_at (left n at ks vs)))
+  simple_read_law s ws o e = rw o (whole_in toks ws s ∙ ap whole_pass e ∙ simple_part fs (simple_at (ahead toks at)))

@@ -1,5 +1,5 @@
 -- What the functions that read an instruction do. A reader of the promises needs none of it.
-use Rattle.std.specs.Prelude.{ℕ, List, [], ◌∷◌, ◌++◌}
+use Rattle.std.specs.Prelude.{ℕ, Option, Some, None, List, [], ◌∷◌, ◌++◌}
 use Rattle.base.specs.Choice.{pick}
 use Rattle.sheet.specs.declared.Field.{Field}
 use Rattle.sheet.specs.declared.Field.TheVariants.{Else, Start, Finish, If}
@@ -8,34 +8,29 @@ use Rattle.source.specs.declared.Token.{Token}
 use Rattle.source.specs.Tokens.{mark_then, mark_else, mark_start}
 use Rattle.source.specs.Grammar.{Read, read, none, next, past, opens, behind_first, Instruction, simple, if_then, if_else, if_start, instruction_at}
 use Rattle.source.specs.Fields.{instruction_fields}
-use Rattle.grammar_look.specs.Internal.{left}
-use Rattle.grammar_output.specs.declared.Step.{Step}
-use Rattle.grammar_output.specs.declared.Step.TheVariants.{At, Missing as NoStep}
+use Rattle.grammar_look.specs.declared.Tokens.{Tokens}
+use Rattle.grammar_look.specs.Internal.{ahead}
 use Rattle.grammar_output.specs.Internal.{Moved}
 use Rattle.grammar_simple.specs.Internal.{simple_pass}
 use Rattle.grammar_condition.specs.Internal.{condition_pass}
 use Rattle.grammar_instruction.specs.declared.Instructed.{Instructed}
-use Rattle.grammar_instruction.specs.declared.Instructed.TheVariants.{Whole, Opening, Missing}
+use Rattle.grammar_instruction.specs.declared.Instructed.TheVariants.{Whole, Opening}
 
 -- all fields up to now, with an instruction that is whole or that goes on behind its START
 pub data Output : Type 0 where
   whole : List Field → Output
   opening : List Field → Output
 
-abbrev pub output_in : ℕ → List ℕ → List ℕ → Instructed → List ℕ → Read Output
-output_in n ks vs (Whole a o) fs = read (whole (fields_from 0 o fs)) (left n a ks vs)
-output_in n ks vs (Opening a o) fs = read (opening (fields_from 0 o fs)) (left n a ks vs)
-output_in n ks vs Missing fs = none
-
-abbrev pub whole_of : Step → Instructed
-whole_of (At a o) = Whole a o
-whole_of NoStep = Missing
+abbrev pub output_in : Tokens → Option Instructed → List ℕ → Read Output
+output_in toks (Some (Whole s)) fs = read (whole (fields_from 0 s.out fs)) (ahead toks s.at)
+output_in toks (Some (Opening s)) fs = read (opening (fields_from 0 s.out fs)) (ahead toks s.at)
+output_in toks None fs = none
 
 -- as `Moved`
-abbrev pub MovedOn : ℕ → ℕ → ℕ → ℕ → Instructed → Type 0
-MovedOn d n at out (Whole a o) = Moved d n at out (At a o)
-MovedOn d n at out (Opening a o) = Moved d n at out (At a o)
-MovedOn d n at out Missing = Unit {0}
+abbrev pub MovedOn : ℕ → ℕ → ℕ → ℕ → Option Instructed → Type 0
+MovedOn d n at out (Some (Whole s)) = Moved d n at out (Some s)
+MovedOn d n at out (Some (Opening s)) = Moved d n at out (Some s)
+MovedOn d n at out None = Unit {0}
 
 -- an instruction behind other fields
 abbrev pub output_of : List Field → Instruction → Output

@@ -4,162 +4,115 @@
 
 ghost use Rattle.std.specs.Prelude.{◌≡◌, ◌+◌, ◌<◌};
 ghost use Rattle.sheet_field.specs.Memory.{fields_from};
-ghost use Rattle.grammar_look.specs.Internal.{left};
+ghost use Rattle.grammar_look.specs.Internal.{ahead};
 ghost use Rattle.grammar_output.specs.Internal.{Ready, Moved};
 ghost use Rattle.grammar_expression.specs.Internal.{stepped};
-ghost use Rattle.grammar_instruction.specs.Internal.{whole_of, output_in, MovedOn};
+ghost use Rattle.grammar_instruction.specs.Internal.{output_in, MovedOn};
 ghost use Rattle.grammar_instruction.specs.Internal.{alternative_pass, otherwise_pass, lone_pass, consequent_pass, conditional_pass, instruction_pass};
 
 use grammar_condition::condition;
-use grammar_look::mark_at;
+use grammar_look::Tokens;
 use grammar_output::{Step, put};
 use grammar_simple::simple;
 use sheet::Field;
 use source::marks::{MARK_ELSE, MARK_IF, MARK_START, MARK_THEN};
 
-// What was read: an instruction, or one up to its `%START`, with the place behind it among the tokens and the place behind its
-// fields. Or that there is nothing of the form.
+// What was read: an instruction, or one up to its `%START`.
 #[derive(Clone, Copy)]
 pub enum Instructed {
-    Whole(usize, usize),
-    Opening(usize, usize),
-    Missing,
-}
-
-fn whole(s: Step) -> Instructed
-    ensures { result ≡ whole_of s }
-{
-    match s {
-        Step::At(a, b) => Instructed::Whole(a, b),
-        Step::Missing => Instructed::Missing,
-    }
+    Whole(Step),
+    Opening(Step),
 }
 
 // Behind `%ELSE`: the second u, and FINISH.
-fn alternative(
-    kinds: &[u8],
-    values: &[u32],
-    n: usize,
-    at: usize,
-    fields: &mut [u64],
-    out: usize,
-) -> Step
-    requires { Ready n at out fields.old × (out < at) }
-    ensures moved { Moved 1 n at (out + 1) result }
-    ensures read { stepped n kinds.now values.now result fields.new
+fn alternative(tokens: &Tokens<'_>, at: usize, fields: &mut [u64], out: usize) -> Option<Step>
+    requires { Ready tokens.now.count at out fields.old × (out < at) }
+    ensures moved { Moved 1 tokens.now.count at (out + 1) result }
+    ensures read { stepped tokens.now result fields.new
         ≡ alternative_pass (fields_from 0 out fields.old)
-        (left n at kinds.now values.now) }
+        (ahead tokens.now at) }
 {
     put(fields, out, Field::Else);
-    let second = simple(kinds, values, n, at, fields, out + 1);
-    let Step::At(a, b) = second else {
-        return Step::Missing;
-    };
-    put(fields, b, Field::Finish);
-    Step::At(a, b + 1)
+    let second = simple(tokens, at, fields, out + 1)?;
+    put(fields, second.out, Field::Finish);
+    Some(Step {
+        out: second.out + 1,
+        ..second
+    })
 }
 
 // Behind the first u: "an optional `%ELSE u`", and FINISH.
-fn otherwise(
-    kinds: &[u8],
-    values: &[u32],
-    n: usize,
-    at: usize,
-    fields: &mut [u64],
-    out: usize,
-) -> Step
-    requires { Ready n at out fields.old × (out < at) }
-    ensures moved { Moved 0 n at (out + 1) result }
-    ensures read { stepped n kinds.now values.now result fields.new
+fn otherwise(tokens: &Tokens<'_>, at: usize, fields: &mut [u64], out: usize) -> Option<Step>
+    requires { Ready tokens.now.count at out fields.old × (out < at) }
+    ensures moved { Moved 0 tokens.now.count at (out + 1) result }
+    ensures read { stepped tokens.now result fields.new
         ≡ otherwise_pass (fields_from 0 out fields.old)
-        (left n at kinds.now values.now) }
+        (ahead tokens.now at) }
 {
-    if mark_at(kinds, values, n, at, MARK_ELSE) {
-        return alternative(kinds, values, n, at + 1, fields, out);
+    if tokens.mark_at(at, MARK_ELSE) {
+        return alternative(tokens, at + 1, fields, out);
     }
     put(fields, out, Field::Finish);
-    Step::At(at, out + 1)
+    Some(Step { at, out: out + 1 })
 }
 
 // "a lone u as a group of one": the parts of an IF that has no `%START`.
-fn lone(kinds: &[u8], values: &[u32], n: usize, at: usize, fields: &mut [u64], out: usize) -> Step
-    requires { Ready n at out fields.old }
-    ensures moved { Moved 1 n at out result }
-    ensures read { stepped n kinds.now values.now result fields.new
+fn lone(tokens: &Tokens<'_>, at: usize, fields: &mut [u64], out: usize) -> Option<Step>
+    requires { Ready tokens.now.count at out fields.old }
+    ensures moved { Moved 1 tokens.now.count at out result }
+    ensures read { stepped tokens.now result fields.new
         ≡ lone_pass (fields_from 0 out fields.old)
-        (left n at kinds.now values.now) }
+        (ahead tokens.now at) }
 {
-    let first = simple(kinds, values, n, at, fields, out);
-    let Step::At(a, b) = first else {
-        return Step::Missing;
-    };
-    otherwise(kinds, values, n, a, fields, b)
+    let first = simple(tokens, at, fields, out)?;
+    otherwise(tokens, first.at, fields, first.out)
 }
 
 // Behind `%THEN`.
-fn consequent(
-    kinds: &[u8],
-    values: &[u32],
-    n: usize,
-    at: usize,
-    fields: &mut [u64],
-    out: usize,
-) -> Instructed
-    requires { Ready n at out fields.old }
-    ensures moved { MovedOn 1 n at out result }
-    ensures read { output_in n kinds.now values.now result fields.new
+fn consequent(tokens: &Tokens<'_>, at: usize, fields: &mut [u64], out: usize) -> Option<Instructed>
+    requires { Ready tokens.now.count at out fields.old }
+    ensures moved { MovedOn 1 tokens.now.count at out result }
+    ensures read { output_in tokens.now result fields.new
         ≡ consequent_pass (fields_from 0 out fields.old)
-        (left n at kinds.now values.now) }
+        (ahead tokens.now at) }
 {
-    if mark_at(kinds, values, n, at, MARK_START) {
-        return Instructed::Opening(at + 1, out);
+    if tokens.mark_at(at, MARK_START) {
+        return Some(Instructed::Opening(Step { at: at + 1, out }));
     }
-    whole(lone(kinds, values, n, at, fields, out))
+    Some(Instructed::Whole(lone(tokens, at, fields, out)?))
 }
 
 // Behind `%IF`.
-fn conditional(
-    kinds: &[u8],
-    values: &[u32],
-    n: usize,
-    at: usize,
-    fields: &mut [u64],
-    out: usize,
-) -> Instructed
-    requires { Ready n at out fields.old × (out < at) }
-    ensures moved { MovedOn 1 n at (out + 1) result }
-    ensures read { output_in n kinds.now values.now result fields.new
+fn conditional(tokens: &Tokens<'_>, at: usize, fields: &mut [u64], out: usize) -> Option<Instructed>
+    requires { Ready tokens.now.count at out fields.old × (out < at) }
+    ensures moved { MovedOn 1 tokens.now.count at (out + 1) result }
+    ensures read { output_in tokens.now result fields.new
         ≡ conditional_pass (fields_from 0 out fields.old)
-        (left n at kinds.now values.now) }
+        (ahead tokens.now at) }
 {
     put(fields, out, Field::If);
-    let first = condition(kinds, values, n, at, fields, out + 1);
-    let Step::At(a, b) = first else {
-        return Instructed::Missing;
-    };
-    if mark_at(kinds, values, n, a, MARK_THEN) {
-        put(fields, b, Field::Start);
-        return consequent(kinds, values, n, a + 1, fields, b + 1);
+    let asked = condition(tokens, at, fields, out + 1)?;
+    if tokens.mark_at(asked.at, MARK_THEN) {
+        put(fields, asked.out, Field::Start);
+        return consequent(tokens, asked.at + 1, fields, asked.out + 1);
     }
-    Instructed::Missing
+    None
 }
 
 pub fn instruction(
-    kinds: &[u8],
-    values: &[u32],
-    n: usize,
+    tokens: &Tokens<'_>,
     at: usize,
     fields: &mut [u64],
     out: usize,
-) -> Instructed
-    requires { Ready n at out fields.old }
-    ensures moved { MovedOn 1 n at out result }
-    ensures read { output_in n kinds.now values.now result fields.new
+) -> Option<Instructed>
+    requires { Ready tokens.now.count at out fields.old }
+    ensures moved { MovedOn 1 tokens.now.count at out result }
+    ensures read { output_in tokens.now result fields.new
         ≡ instruction_pass (fields_from 0 out fields.old)
-        (left n at kinds.now values.now) }
+        (ahead tokens.now at) }
 {
-    if mark_at(kinds, values, n, at, MARK_IF) {
-        return conditional(kinds, values, n, at + 1, fields, out);
+    if tokens.mark_at(at, MARK_IF) {
+        return conditional(tokens, at + 1, fields, out);
     }
-    whole(simple(kinds, values, n, at, fields, out))
+    Some(Instructed::Whole(simple(tokens, at, fields, out)?))
 }

@@ -7,7 +7,7 @@ ghost use Rattle.source.specs.Limits.{most_cells};
 ghost use Rattle.grammar_output.specs.Internal.{Ready};
 ghost use Rattle.grammar_lead.specs.Internal.{SignedAs, OpenedAs};
 
-use grammar_look::{Lead, lead_at};
+use grammar_look::{Lead, Tokens};
 use grammar_output::put;
 use sheet::Field;
 
@@ -34,28 +34,19 @@ fn signed(at: usize, fields: &mut [u64], out: usize, f: Field, upper: usize) -> 
 
 // "An expression may begin with one `+`, `-` or `\`". A minus has the lowest level, so the operands of the others start behind
 // it; `\` has the highest.
-pub fn open(
-    kinds: &[u8],
-    values: &[u32],
-    n: usize,
-    at: usize,
-    fields: &mut [u64],
-    out: usize,
-) -> Opened
-    requires { Ready n at out fields.old }
-    ensures { OpenedAs n at out kinds.now values.now fields.old result
-        fields.new }
+pub fn open(tokens: &Tokens<'_>, at: usize, fields: &mut [u64], out: usize) -> Opened
+    requires { Ready tokens.now.count at out fields.old }
+    ensures { OpenedAs tokens.now at out fields.old result fields.new }
 {
-    let free = out + 1;
-    match lead_at(kinds, values, n, at) {
-        Lead::Plus => Opened {
+    match tokens.lead_at(at) {
+        Some(Lead::Plus) => Opened {
             at: at + 1,
             upper: out,
             out,
         },
-        Lead::Minus => signed(at, fields, out, Field::Neg, free),
-        Lead::Invert => signed(at, fields, out, Field::Not, out),
-        Lead::Missing => Opened {
+        Some(Lead::Minus) => signed(at, fields, out, Field::Neg, out + 1),
+        Some(Lead::Invert) => signed(at, fields, out, Field::Not, out),
+        None => Opened {
             at,
             upper: out,
             out,

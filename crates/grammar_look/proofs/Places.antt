@@ -1,48 +1,48 @@
--- The tokens that are left at a place of two arrays, and what is found there.
+-- The tokens from a place on, and what is found there.
 use Prim.Native.Nat.{ℕ, suc, ◌+◌, ◌-◌, ◌<◌, ◌≤◌}
 use mathlib.Core.Path.{◌≡◌, refl, ap₂}
 use mathlib.Core.Bool.{true, false}
 use mathlib.Core.List.{List, [], ◌∷◌}
 use native.Mathlib.Omega.{arith}
 use native.Mathlib.Numerals.{add-one}
-use lib.ListN.{length, get_or}
+use lib.ListN.{length}
 use Rattle.std.specs.Prelude.{None, Some}
 use Rattle.base.specs.Choice.{pick}
 use Rattle.source.specs.declared.Token.{Token}
 use Rattle.source.specs.Tokens.{mark_colon}
 use Rattle.source.specs.Grammar.{opens, behind_first}
-use Rattle.source.specs.Memory.{token_of, tokens_from}
+use Rattle.source.specs.Memory.{tokens_from}
 use Rattle.source.proofs.Stored.{tokens_length, tokens_more, tokens_over}
-use Rattle.grammar_look.specs.Internal.{left, first, opening_of, first_opening, first_number, first_label}
+use Rattle.grammar_look.specs.declared.Tokens.{Tokens}
+use Rattle.grammar_look.specs.Internal.{token_at, ahead, first, opening_of, first_opening, first_number, first_label}
 
-pub left_length : (ks vs : List ℕ) (n at : ℕ) → length (left n at ks vs) ≡ n - at
-left_length ks vs n at = tokens_length at (n - at) ks vs
+module _ (toks : Tokens) (at : ℕ) where
+  pub ahead_length : length (ahead toks at) ≡ toks.count - at
+  ahead_length = tokens_length at (toks.count - at) toks.kinds.now toks.values.now
 
-module _ (ks vs : List ℕ) (n at : ℕ) where
-  pub left_more : at < n → left n at ks vs ≡ token_of (get_or ks at 0) (get_or vs at 0) ∷ left n (at + 1) ks vs
-  left_more h = tokens_more ks vs at n h
+  pub ahead_more : at < toks.count → ahead toks at ≡ token_at toks at ∷ ahead toks (at + 1)
+  ahead_more h = tokens_more toks.kinds.now toks.values.now at toks.count h
 
-  pub left_none : n ≤ at → left n at ks vs ≡ []
-  left_none h = tokens_over ks vs at n h
+  pub ahead_none : toks.count ≤ at → ahead toks at ≡ []
+  ahead_none h = tokens_over toks.kinds.now toks.values.now at toks.count h
 
-  pub left_behind : at < n → left n (at + 1) ks vs ≡ behind_first (left n at ks vs)
+  pub ahead_behind : at < toks.count → ahead toks (at + 1) ≡ behind_first (ahead toks at)
   unfolding behind_first
-  left_behind h = rw (left_more h) refl
+  ahead_behind h = rw (ahead_more h) refl
 
   -- two tokens
-  pub left_two : at < n → (n - at ≡ 1 → ⊥)
-      → left n at ks vs ≡ token_of (get_or ks at 0) (get_or vs at 0) ∷ token_of (get_or ks (at + 1) 0) (get_or vs (at + 1) 0) ∷ left n (at + 2) ks vs
+  pub ahead_two : at < toks.count → (toks.count - at ≡ 1 → ⊥) → ahead toks at ≡ token_at toks at ∷ token_at toks (at + 1) ∷ ahead toks (at + 2)
   unfolding tokens_from
-  left_two h g =
-      let two_more : at + 1 < n = omega (arith, g) in
-      let more : n - at ≡ suc (suc (n - (at + 2))) = omega arith in
+  ahead_two h g =
+      let two_more : at + 1 < toks.count = omega (arith, g) in
+      let more : toks.count - at ≡ suc (suc (toks.count - (at + 2))) = omega arith in
       let two : at + 2 ≡ suc (suc at) = omega arith in
       rw (more, add-one at, two) refl
 
   -- one token
-  pub left_one : at < n → n - at ≡ 1 → left n at ks vs ≡ token_of (get_or ks at 0) (get_or vs at 0) ∷ []
+  pub ahead_one : at < toks.count → toks.count - at ≡ 1 → ahead toks at ≡ token_at toks at ∷ []
   unfolding tokens_from
-  left_one h one = rw one refl
+  ahead_one h one = rw one refl
 
 -- what two tokens open
 pub opening_two : (l : List Token) (t u : Token) → first l ≡ Some t → first (behind_first l) ≡ Some u → first_opening l ≡ opening_of t u

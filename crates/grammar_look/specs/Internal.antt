@@ -1,5 +1,5 @@
 -- What the functions find at a place of the tokens. A reader of the promises needs none of it.
-use Rattle.std.specs.Prelude.{ℕ, ◌-◌, Bool, true, false, Option, None, Some, List, [], ◌∷◌, eqb, option_and_then}
+use Rattle.std.specs.Prelude.{ℕ, ◌-◌, Bool, true, false, Option, None, Some, List, [], ◌∷◌, eqb, get_or, option_and_then}
 use Rattle.base.specs.Choice.{pick}
 use Rattle.word.specs.declared.Relation.{Relation}
 use Rattle.sheet.specs.declared.Operator.{Operator}
@@ -9,7 +9,7 @@ use Rattle.source.specs.declared.Token.{Token}
 use Rattle.source.specs.declared.Token.TheVariants.{Name, Number, Quoted, Binary, Compare, Mark}
 use Rattle.source.specs.Tokens.{mark_arrow, mark_open, mark_colon, mark_invert}
 use Rattle.source.specs.Grammar.{is_mark, is_equal, is_name, send_word}
-use Rattle.source.specs.Memory.{tokens_from}
+use Rattle.source.specs.Memory.{token_of, tokens_from}
 use Rattle.grammar_look.specs.declared.Tokens.{Tokens}
 use Rattle.grammar_look.specs.declared.Operand.{Operand}
 use Rattle.grammar_look.specs.declared.Operand.TheVariants.{Plain, Open}
@@ -18,12 +18,13 @@ use Rattle.grammar_look.specs.declared.Lead.TheVariants.{Plus as PlusLead, Minus
 use Rattle.grammar_look.specs.declared.Opening.{Opening}
 use Rattle.grammar_look.specs.declared.Opening.TheVariants.{Set, Send, Goto}
 
--- the tokens that are left at a place, of n
-abbrev pub left : ℕ → ℕ → List ℕ → List ℕ → List Token
-left n at ks vs = tokens_from at (n - at) ks vs
+-- the token at a place of the arrays
+abbrev pub token_at : Tokens → ℕ → Token
+token_at toks at = token_of (get_or toks.kinds.now at 0) (get_or toks.values.now at 0)
 
+-- the tokens from a place on
 abbrev pub ahead : Tokens → ℕ → List Token
-ahead t at = left t.count at t.kinds.now t.values.now
+ahead toks at = tokens_from at (toks.count - at) toks.kinds.now toks.values.now
 
 abbrev pub first : List Token → Option Token
 first [] = None

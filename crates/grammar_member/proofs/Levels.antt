@@ -6,6 +6,7 @@ use mathlib.Core.List.{List, [], ◌∷◌, ◌++◌, append_assoc, append-nil}
 use native.Mathlib.Omega.{arith}
 use lib.ListN.{length, length-append, get_or, set}
 use lib.Seq.{get_or-set_same, get_or-set_other}
+use Rattle.std.specs.Prelude.{Option, Some, None}
 use Rattle.base.specs.Choice.{pick}
 use Rattle.word.specs.declared.Relation.{Relation}
 use Rattle.sheet.specs.declared.Field.{Field}
@@ -18,12 +19,11 @@ use Rattle.source.specs.declared.Token.{Token}
 use Rattle.source.specs.Tokens.{mark_close}
 use Rattle.source.specs.Grammar.{Read, read, none, next, past, opens, behind_first, expression_in, expression, relation_at, comparison_at}
 use Rattle.source.specs.Grammar.{opens_condition, member_by, condition_in, condition_at}
-use Rattle.grammar_look.specs.Internal.{left}
-use Rattle.grammar_look.proofs.Places.{left_length, left_none, left_behind}
+use Rattle.grammar_look.specs.declared.Tokens.{Tokens}
+use Rattle.grammar_look.specs.Internal.{ahead}
+use Rattle.grammar_look.proofs.Places.{ahead_length, ahead_none, ahead_behind}
 use Rattle.grammar_output.specs.Internal.{written, insert_at}
 use Rattle.grammar_member.specs.declared.Reading.{Reading}
-use Rattle.grammar_member.specs.declared.Found.{Found}
-use Rattle.grammar_member.specs.declared.Found.TheVariants.{At as FoundAt, Missing as NotFound}
 use Rattle.grammar_member.specs.Internal.{Joint, free, by, code, joining_of, word_behind, go_on, top_of, last_of, last_place}
 use Rattle.grammar_member.specs.Internal.{first, behind, joint_of, add, fields_before}
 use Rattle.grammar_member.specs.Internal.{Frame, resumed, beneath, Kept, begun_at, top_by, last_by, outward_from, Onward, Wanted, Reached}
@@ -164,14 +164,14 @@ nothing_written g (read c rest) e = let z : ◌≡◌ {A = ℕ} 0 1 = cc in absu
 
 -- ---- from state to state
 
-module _ (n : ℕ) (ks vs : List ℕ) where
+module _ (toks : Tokens) where
   -- a condition begins
-  pub starts : (at out : ℕ) (fs stack : List ℕ) → at ≤ n
-      → Wanted n ks vs fs stack (begun_at at out 0) (fields_from 0 out fs) (condition_at (left n at ks vs))
+  pub starts : (at out : ℕ) (fs stack : List ℕ) → at ≤ toks.count
+      → Wanted toks fs stack (begun_at at out 0) (fields_from 0 out fs) (condition_at (ahead toks at))
   unfolding condition_in resumed Kept beneath next
-  starts at out fs stack h = go (length (left n at ks vs)) (left_length ks vs n at)
+  starts at out fs stack h = go (length (ahead toks at)) (ahead_length toks at)
     where
-      go : (k : ℕ) → k ≡ n - at → Wanted n ks vs fs stack (begun_at at out 0) (fields_from 0 out fs) (condition_in k (left n at ks vs))
+      go : (k : ℕ) → k ≡ toks.count - at → Wanted toks fs stack (begun_at at out 0) (fields_from 0 out fs) (condition_in k (ahead toks at))
       go zero e =
           record {
             frames = [];
@@ -185,7 +185,7 @@ module _ (n : ℕ) (ks vs : List ℕ) where
             word_of_law = refl;
             enough = omega (arith, e);
             enough_links = omega (arith, e);
-            same = rw (left_none ks vs n at (omega (arith, e)), no_member (condition_in 0)) refl;
+            same = rw (ahead_none toks at (omega (arith, e)), no_member (condition_in 0)) refl;
           }
       go (suc k) e =
           record {
@@ -205,18 +205,18 @@ module _ (n : ℕ) (ks vs : List ℕ) where
 
   module _ (fs stack : List ℕ) (s : Reading) (base : List Field) (all : Read Condition) where
     -- a bracket: the frame of the condition round it goes on the stack
-    open_reached : (k : ℕ) → opens_condition (left n s.at ks vs) ≡ true → s.depth < length stack → s.at + 1 < n
-        → (r : Wanted n ks vs fs stack s base all) → n ≤ s.at + 1 + suc k
+    open_reached : (k : ℕ) → opens_condition (ahead toks s.at) ≡ true → s.depth < length stack → s.at + 1 < toks.count
+        → (r : Wanted toks fs stack s base all) → toks.count ≤ s.at + 1 + suc k
         → resumed (suc k) r.frames
-        (next (member_by (condition_in (suc k)) (left n s.at ks vs))
+        (next (member_by (condition_in (suc k)) (ahead toks s.at))
         (λ m rest. go_on (condition_in (suc k)) (joint_of r.before) r.links (add r.before m) rest))
         ≡ all
-        → Wanted n ks vs fs (set stack s.depth (s.start * 4 + s.joined)) (begun_at (s.at + 1) s.out (s.depth + 1)) base all
+        → Wanted toks fs (set stack s.depth (s.start * 4 + s.joined)) (begun_at (s.at + 1) s.out (s.depth + 1)) base all
     unfolding resumed Kept beneath
     open_reached k e room inside r enough same =
         let f : Frame = record { before = r.before; links = r.links } in
         let g : Condition → List Token → Read Condition = λ m rest. go_on (condition_in (suc k)) (joint_of r.before) r.links (add r.before m) rest in
-        let inner = condition_in (suc k) (left n (s.at + 1) ks vs) in
+        let inner = condition_in (suc k) (ahead toks (s.at + 1)) in
         record {
           frames = f ∷ r.frames;
           fuel = k;
@@ -231,8 +231,8 @@ module _ (n : ℕ) (ks vs : List ℕ) where
                   ∙ ap₂ (λ p q. p * 4 + q) r.start_of r.word_of_law;
               enough = omega (arith, r.enough_links);
             },
-            kept_later n s.at (s.at + 1) base _ r.frames (omega arith)
-                (kept_set n s.at s.depth (s.start * 4 + s.joined) base stack r.frames (omega (arith, r.depth_of)) r.kept),
+            kept_later toks.count s.at (s.at + 1) base _ r.frames (omega arith)
+                (kept_set toks.count s.at s.depth (s.start * 4 + s.joined) base stack r.frames (omega (arith, r.depth_of)) r.kept),
           );
           fields = r.fields ∙ sym (append-nil (beneath base r.frames ++ fields_before r.before));
           start_of = sym (fields_length 0 s.out fs) ∙ ap length r.fields;
@@ -240,32 +240,32 @@ module _ (n : ℕ) (ks vs : List ℕ) where
           enough = omega (arith, enough);
           enough_links = omega (arith, enough);
           same =
-              begun_inside k (left n (s.at + 1) ks vs) (f ∷ r.frames)
+              begun_inside k (ahead toks (s.at + 1)) (f ∷ r.frames)
               ∙ ap (resumed (suc k) r.frames)
               (inside_then g inner
               ∙ ap (λ x. next x g)
-              (ap (λ ts. next (condition_in (suc k) ts) (λ c rest. past mark_close rest (λ l. read c l))) (left_behind ks vs n s.at (omega (arith, inside)))
-              ∙ sym (bracketed_member (condition_in (suc k)) (left n s.at ks vs) e)))
+              (ap (λ ts. next (condition_in (suc k) ts) (λ c rest. past mark_close rest (λ l. read c l))) (ahead_behind toks s.at (omega (arith, inside)))
+              ∙ sym (bracketed_member (condition_in (suc k)) (ahead toks s.at) e)))
               ∙ same;
         }
 
-    pub opened : opens_condition (left n s.at ks vs) ≡ true → s.depth < length stack → Wanted n ks vs fs stack s base all
-        → Wanted n ks vs fs (set stack s.depth (s.start * 4 + s.joined)) (begun_at (s.at + 1) s.out (s.depth + 1)) base all
+    pub opened : opens_condition (ahead toks s.at) ≡ true → s.depth < length stack → Wanted toks fs stack s base all
+        → Wanted toks fs (set stack s.depth (s.start * 4 + s.joined)) (begun_at (s.at + 1) s.out (s.depth + 1)) base all
     opened e room r = go r.fuel r.enough r.same
       where
-        go : (k : ℕ) → n ≤ s.at + 1 + k
+        go : (k : ℕ) → toks.count ≤ s.at + 1 + k
             → resumed k r.frames
-            (next (member_by (condition_in k) (left n s.at ks vs)) (λ m rest. go_on (condition_in k) (joint_of r.before) r.links (add r.before m) rest))
+            (next (member_by (condition_in k) (ahead toks s.at)) (λ m rest. go_on (condition_in k) (joint_of r.before) r.links (add r.before m) rest))
             ≡ all
-            → Wanted n ks vs fs (set stack s.depth (s.start * 4 + s.joined)) (begun_at (s.at + 1) s.out (s.depth + 1)) base all
-        go zero enough same = absurd (omega (arith, enough, opens_inside ks vs n s.at e))
-        go (suc k) enough same = open_reached k e room (opens_inside ks vs n s.at e) r enough same
+            → Wanted toks fs (set stack s.depth (s.start * 4 + s.joined)) (begun_at (s.at + 1) s.out (s.depth + 1)) base all
+        go zero enough same = absurd (omega (arith, enough, opens_inside toks s.at e))
+        go (suc k) enough same = open_reached k e room (opens_inside toks s.at e) r enough same
 
     -- a comparison
-    compared_reached : (fs₁ : List ℕ) (a o : ℕ) → opens_condition (left n s.at ks vs) ≡ false → s.at < a
-        → Compared (comparison_at (left n s.at ks vs)) (fields_from 0 s.out fs) (fields_from 0 o fs₁) (left n a ks vs)
-        → Wanted n ks vs fs stack s base all
-        → Reached n ks vs fs₁ stack
+    compared_reached : (fs₁ : List ℕ) (a o : ℕ) → opens_condition (ahead toks s.at) ≡ false → s.at < a
+        → Compared (comparison_at (ahead toks s.at)) (fields_from 0 s.out fs) (fields_from 0 o fs₁) (ahead toks a)
+        → Wanted toks fs stack s base all
+        → Reached toks fs₁ stack
         (record { at = a; out = o; depth = s.depth; joined = s.joined; start = s.start; top = s.joined; last = s.out }) base all
     unfolding next last_of pick
     compared_reached fs₁ a o e h x r =
@@ -279,7 +279,7 @@ module _ (n : ℕ) (ks vs : List ℕ) where
           joint = joint_of b;
           condition = add b m;
           depth_of = r.depth_of;
-          kept = kept_later n s.at a base stack r.frames (omega (arith, h)) r.kept;
+          kept = kept_later toks.count s.at a base stack r.frames (omega (arith, h)) r.kept;
           fields =
               x.fields ∙ ap (λ l. l ++ condition_fields m) r.fields ∙ append_assoc under (fields_before b) (condition_fields m)
               ∙ ap (λ l. under ++ l) (sym (add_fields b m));
@@ -296,36 +296,36 @@ module _ (n : ℕ) (ks vs : List ℕ) where
           same =
               ap (resumed r.fuel r.frames)
               (ap (λ y. next y (λ m rest. go_on (condition_in r.fuel) (joint_of b) r.links (add b m) rest))
-              (sym (compared_member (condition_in r.fuel) (left n s.at ks vs) e ∙ x.found)))
+              (sym (compared_member (condition_in r.fuel) (ahead toks s.at) e ∙ x.found)))
               ∙ r.same;
         }
 
-    pub compared_found : (fs₁ : List ℕ) (a o : ℕ) → opens_condition (left n s.at ks vs) ≡ false → s.at < a
-        → read (fields_from 0 o fs₁) (left n a ks vs) ≡ written condition_fields (fields_from 0 s.out fs) (comparison_at (left n s.at ks vs))
-        → Wanted n ks vs fs stack s base all
-        → Reached n ks vs fs₁ stack
+    pub compared_found : (fs₁ : List ℕ) (a o : ℕ) → opens_condition (ahead toks s.at) ≡ false → s.at < a
+        → read (fields_from 0 o fs₁) (ahead toks a) ≡ written condition_fields (fields_from 0 s.out fs) (comparison_at (ahead toks s.at))
+        → Wanted toks fs stack s base all
+        → Reached toks fs₁ stack
         (record { at = a; out = o; depth = s.depth; joined = s.joined; start = s.start; top = s.joined; last = s.out }) base all
     compared_found fs₁ a o e h x r =
         compared_reached fs₁ a o e h
-        (compared (fields_from 0 s.out fs) (fields_from 0 o fs₁) (left n a ks vs) (expression (left n s.at ks vs)) x) r
+        (compared (fields_from 0 s.out fs) (fields_from 0 o fs₁) (ahead toks a) (expression (ahead toks s.at)) x) r
 
-    pub compared_missing : opens_condition (left n s.at ks vs) ≡ false
-        → none ≡ written condition_fields (fields_from 0 s.out fs) (comparison_at (left n s.at ks vs)) → Wanted n ks vs fs stack s base all
+    pub compared_missing : opens_condition (ahead toks s.at) ≡ false
+        → none ≡ written condition_fields (fields_from 0 s.out fs) (comparison_at (ahead toks s.at)) → Wanted toks fs stack s base all
         → none ≡ all
     unfolding next
     compared_missing e x r =
         sym (resumed_none r.fuel r.frames)
         ∙ ap (resumed r.fuel r.frames)
         (ap (λ y. next y (λ m rest. go_on (condition_in r.fuel) (joint_of r.before) r.links (add r.before m) rest))
-        (sym (compared_member (condition_in r.fuel) (left n s.at ks vs) e ∙ nothing_written (fields_from 0 s.out fs) _ x)))
+        (sym (compared_member (condition_in r.fuel) (ahead toks s.at) e ∙ nothing_written (fields_from 0 s.out fs) _ x)))
         ∙ r.same
 
     -- a word
-    word_reached : (j w t l : ℕ) (fs₁ : List ℕ) (v : Coded w) → word_behind s.joined (left n s.at ks vs) ≡ w → s.at < n
+    word_reached : (j w t l : ℕ) (fs₁ : List ℕ) (v : Coded w) → word_behind s.joined (ahead toks s.at) ≡ w → s.at < toks.count
         → fields_from 0 (s.out + 1) fs₁ ≡ insert_at (last_by w s) (Run (joining_of w) 0) (fields_from 0 s.out fs)
-        → (r : Reached n ks vs fs stack s base all) → n < s.at + suc j
-        → resumed r.fuel r.frames (go_on (condition_in r.fuel) r.joint (suc j) r.condition (left n s.at ks vs)) ≡ all
-        → Wanted n ks vs fs₁ stack
+        → (r : Reached toks fs stack s base all) → toks.count < s.at + suc j
+        → resumed r.fuel r.frames (go_on (condition_in r.fuel) r.joint (suc j) r.condition (ahead toks s.at)) ≡ all
+        → Wanted toks fs₁ stack
         (record { at = s.at + 1; out = s.out + 1; depth = s.depth; joined = w; start = s.start; top = t; last = l }) base all
     word_reached j w t l fs₁ v e h g r enough same =
         let c = r.condition in
@@ -337,7 +337,7 @@ module _ (n : ℕ) (ks vs : List ℕ) where
           links = j;
           before = behind u c;
           depth_of = r.depth_of;
-          kept = kept_later n s.at (s.at + 1) base stack r.frames (omega arith) r.kept;
+          kept = kept_later toks.count s.at (s.at + 1) base stack r.frames (omega arith) r.kept;
           fields =
               g
               ∙ ap₂ (λ p q. insert_at p (Run q 0) (fields_from 0 s.out fs))
@@ -352,58 +352,58 @@ module _ (n : ℕ) (ks vs : List ℕ) where
           same =
               ap (resumed r.fuel r.frames)
               (ap (λ ts. next (member_by (condition_in r.fuel) ts) (λ m rest. go_on (condition_in r.fuel) (by u) j (add (behind u c) m) rest))
-              (left_behind ks vs n s.at h)
-              ∙ sym (go_more (condition_in r.fuel) j c (left n s.at ks vs) r.joint u
-              (ap (λ k. word_behind k (left n s.at ks vs)) (sym r.word_of_law) ∙ e ∙ v.number)))
+              (ahead_behind toks s.at h)
+              ∙ sym (go_more (condition_in r.fuel) j c (ahead toks s.at) r.joint u
+              (ap (λ k. word_behind k (ahead toks s.at)) (sym r.word_of_law) ∙ e ∙ v.number)))
               ∙ same;
         }
 
-    pub word_turn : (w t l : ℕ) (fs₁ : List ℕ) → Coded w → word_behind s.joined (left n s.at ks vs) ≡ w → s.at < n
+    pub word_turn : (w t l : ℕ) (fs₁ : List ℕ) → Coded w → word_behind s.joined (ahead toks s.at) ≡ w → s.at < toks.count
         → fields_from 0 (s.out + 1) fs₁ ≡ insert_at (last_by w s) (Run (joining_of w) 0) (fields_from 0 s.out fs)
-        → Reached n ks vs fs stack s base all
-        → Wanted n ks vs fs₁ stack
+        → Reached toks fs stack s base all
+        → Wanted toks fs₁ stack
         (record { at = s.at + 1; out = s.out + 1; depth = s.depth; joined = w; start = s.start; top = t; last = l }) base all
     word_turn w t l fs₁ v e h g r = go r.links r.enough_links r.same
       where
-        go : (j : ℕ) → n < s.at + j
-            → resumed r.fuel r.frames (go_on (condition_in r.fuel) r.joint j r.condition (left n s.at ks vs)) ≡ all
-            → Wanted n ks vs fs₁ stack
+        go : (j : ℕ) → toks.count < s.at + j
+            → resumed r.fuel r.frames (go_on (condition_in r.fuel) r.joint j r.condition (ahead toks s.at)) ≡ all
+            → Wanted toks fs₁ stack
             (record { at = s.at + 1; out = s.out + 1; depth = s.depth; joined = w; start = s.start; top = t; last = l }) base all
         go zero enough same = absurd (omega (arith, enough, h))
         go (suc j) enough same = word_reached j w t l fs₁ v e h g r enough same
 
     -- no word: what was read of the innermost condition is all of it
-    word_stop : s.at ≤ n → word_behind s.joined (left n s.at ks vs) ≡ 0 → (r : Reached n ks vs fs stack s base all)
-        → resumed r.fuel r.frames (read r.condition (left n s.at ks vs)) ≡ all
+    word_stop : s.at ≤ toks.count → word_behind s.joined (ahead toks s.at) ≡ 0 → (r : Reached toks fs stack s base all)
+        → resumed r.fuel r.frames (read r.condition (ahead toks s.at)) ≡ all
     word_stop h e r = go r.links r.enough_links r.same
       where
-        go : (j : ℕ) → n < s.at + j
-            → resumed r.fuel r.frames (go_on (condition_in r.fuel) r.joint j r.condition (left n s.at ks vs)) ≡ all
-            → resumed r.fuel r.frames (read r.condition (left n s.at ks vs)) ≡ all
+        go : (j : ℕ) → toks.count < s.at + j
+            → resumed r.fuel r.frames (go_on (condition_in r.fuel) r.joint j r.condition (ahead toks s.at)) ≡ all
+            → resumed r.fuel r.frames (read r.condition (ahead toks s.at)) ≡ all
         go zero enough same = absurd (omega (arith, enough, h))
         go (suc j) enough same =
             ap (resumed r.fuel r.frames)
-            (sym (go_stop (condition_in r.fuel) j r.condition (left n s.at ks vs) r.joint
-            (ap (λ k. word_behind k (left n s.at ks vs)) (sym r.word_of_law) ∙ e)))
+            (sym (go_stop (condition_in r.fuel) j r.condition (ahead toks s.at) r.joint
+            (ap (λ k. word_behind k (ahead toks s.at)) (sym r.word_of_law) ∙ e)))
             ∙ same
 
-    pub word_end : s.at ≤ n → word_behind s.joined (left n s.at ks vs) ≡ 0 → s.depth ≡ 0 → Reached n ks vs fs stack s base all
-        → read (fields_from 0 s.out fs) (left n s.at ks vs) ≡ written condition_fields base all
+    pub word_end : s.at ≤ toks.count → word_behind s.joined (ahead toks s.at) ≡ 0 → s.depth ≡ 0 → Reached toks fs stack s base all
+        → read (fields_from 0 s.out fs) (ahead toks s.at) ≡ written condition_fields base all
     word_end h e d r =
-        outermost r.fuel r.frames (r.depth_of ∙ d) base r.condition (fields_from 0 s.out fs) (left n s.at ks vs) r.fields
+        outermost r.fuel r.frames (r.depth_of ∙ d) base r.condition (fields_from 0 s.out fs) (ahead toks s.at) r.fields
         ∙ ap (written condition_fields base) (word_stop h e r)
 
-    pub unclosed : s.at ≤ n → word_behind s.joined (left n s.at ks vs) ≡ 0 → 0 < s.depth
-        → opens mark_close (left n s.at ks vs) ≡ false → Reached n ks vs fs stack s base all → none ≡ all
+    pub unclosed : s.at ≤ toks.count → word_behind s.joined (ahead toks s.at) ≡ 0 → 0 < s.depth
+        → opens mark_close (ahead toks s.at) ≡ false → Reached toks fs stack s base all → none ≡ all
     unclosed h e d o r = unclosed_all r.fuel r.frames (omega (arith, d, r.depth_of)) _ _ o ∙ word_stop h e r
 
     -- behind a closing bracket what was read is a member of the condition round it
-    popped : (f : Frame) (gs : List Frame) (k p q : ℕ) (c : Condition) → s.at < n → length (f ∷ gs) ≡ s.depth
-        → opens mark_close (left n s.at ks vs) ≡ true → q ≡ code (joint_of f.before) → p ≡ length (beneath base gs)
-        → Kept n s.at base stack (f ∷ gs) → fields_from 0 s.out fs ≡ beneath base (f ∷ gs) ++ condition_fields c
+    popped : (f : Frame) (gs : List Frame) (k p q : ℕ) (c : Condition) → s.at < toks.count → length (f ∷ gs) ≡ s.depth
+        → opens mark_close (ahead toks s.at) ≡ true → q ≡ code (joint_of f.before) → p ≡ length (beneath base gs)
+        → Kept toks.count s.at base stack (f ∷ gs) → fields_from 0 s.out fs ≡ beneath base (f ∷ gs) ++ condition_fields c
         → s.start ≡ length (beneath base (f ∷ gs)) → s.top ≡ code (top_of c) → s.last ≡ length (beneath base (f ∷ gs)) + last_of c
-        → n ≤ s.at + 1 + k → resumed k (f ∷ gs) (read c (left n s.at ks vs)) ≡ all
-        → Reached n ks vs fs stack
+        → toks.count ≤ s.at + 1 + k → resumed k (f ∷ gs) (read c (ahead toks s.at)) ≡ all
+        → Reached toks fs stack
         (record { at = s.at + 1; out = s.out; depth = s.depth - 1; joined = q; start = p; top = top_by q s; last = last_by q s }) base all
     unfolding Kept resumed beneath next pick
     popped f gs k p q c h size o word start kept fields start_of top_of_law last_of_law enough same =
@@ -417,7 +417,7 @@ module _ (n : ℕ) (ks vs : List ℕ) where
           joint = joint_of b;
           condition = add b c;
           depth_of = omega (arith, size);
-          kept = kept_later n s.at (s.at + 1) base stack gs (omega arith) kept.1;
+          kept = kept_later toks.count s.at (s.at + 1) base stack gs (omega arith) kept.1;
           fields =
               fields ∙ append_assoc under (fields_before b) (condition_fields c) ∙ ap (λ l. under ++ l) (sym (add_fields b c));
           start_of = start;
@@ -430,21 +430,21 @@ module _ (n : ℕ) (ks vs : List ℕ) where
               omega (arith, last, parts, add_last b c);
           enough = omega (arith, enough);
           enough_links = omega (arith, kept.0.enough);
-          same = rw (left_behind ks vs n s.at h) (rw o at same);
+          same = rw (ahead_behind toks s.at h) (rw o at same);
         }
 
-    pub closed : (w : ℕ) → s.at < n → word_behind s.joined (left n s.at ks vs) ≡ 0 → 0 < s.depth
-        → opens mark_close (left n s.at ks vs) ≡ true → get_or stack (s.depth - 1) 0 ≡ w
-        → Reached n ks vs fs stack s base all
-        → Reached n ks vs fs stack (outward_from s w) base all
+    pub closed : (w : ℕ) → s.at < toks.count → word_behind s.joined (ahead toks s.at) ≡ 0 → 0 < s.depth
+        → opens mark_close (ahead toks s.at) ≡ true → get_or stack (s.depth - 1) 0 ≡ w
+        → Reached toks fs stack s base all
+        → Reached toks fs stack (outward_from s w) base all
     unfolding Kept
     closed w h e d o held r = go r.frames r.depth_of r.kept r.fields r.start_of r.last_of_law (word_stop (omega (arith, h)) e r)
       where
-        go : (gs : List Frame) → length gs ≡ s.depth → Kept n s.at base stack gs
+        go : (gs : List Frame) → length gs ≡ s.depth → Kept toks.count s.at base stack gs
             → fields_from 0 s.out fs ≡ beneath base gs ++ condition_fields r.condition
             → s.start ≡ length (beneath base gs) → s.last ≡ length (beneath base gs) + last_of r.condition
-            → resumed r.fuel gs (read r.condition (left n s.at ks vs)) ≡ all
-            → Reached n ks vs fs stack (outward_from s w) base all
+            → resumed r.fuel gs (read r.condition (ahead toks s.at)) ≡ all
+            → Reached toks fs stack (outward_from s w) base all
         go [] size kept fields start last same = absurd (omega (arith, size, d))
         go (f ∷ gs) size kept fields start last same =
             let place : s.depth - 1 ≡ length gs = omega (arith, size) in
@@ -457,32 +457,32 @@ module _ (n : ℕ) (ks vs : List ℕ) where
 
     -- ---- places and words
 
-    pub reached_start : Reached n ks vs fs stack s base all → s.start ≤ s.out
+    pub reached_start : Reached toks fs stack s base all → s.start ≤ s.out
     reached_start r =
         let size = sym (fields_length 0 s.out fs) ∙ ap length r.fields ∙ length-append (beneath base r.frames) (condition_fields r.condition) in
         omega (arith, size, r.start_of)
 
-    pub reached_last : Reached n ks vs fs stack s base all → s.last ≤ s.out
+    pub reached_last : Reached toks fs stack s base all → s.last ≤ s.out
     reached_last r =
         let size = sym (fields_length 0 s.out fs) ∙ ap length r.fields ∙ length-append (beneath base r.frames) (condition_fields r.condition) in
         omega (arith, size, r.last_of_law, last_within r.condition)
 
-    pub reached_word : Reached n ks vs fs stack s base all → s.joined ≤ 2
+    pub reached_word : Reached toks fs stack s base all → s.joined ≤ 2
     reached_word r = rw r.word_of_law (code_few r.joint)
 
 -- what was read from a later place on
-pub onward_later : (n : ℕ) (s t : Reading) (r : Found) → s.at ≤ t.at → s.out ≤ t.out
+pub onward_later : (n : ℕ) (s t : Reading) (r : Option Reading) → s.at ≤ t.at → s.out ≤ t.out
     → t.depth + t.out + s.at ≤ t.at + s.depth + s.out → Onward n t r → Onward n s r
-onward_later n s t (FoundAt u) h g f o = (omega (arith, o, h), o.1, omega (arith, o, g), omega (arith, o, f))
-onward_later n s t NotFound h g f o = tt
+onward_later n s t (Some u) h g f o = (omega (arith, o, h), o.1, omega (arith, o, g), omega (arith, o, f))
+onward_later n s t None h g f o = tt
 
 -- the brackets before a member, from reading s on
-pub record Opening (n : ℕ) (ks vs stack₀ : List ℕ) (s : Reading) (stack : List ℕ) (t : Reading) : Type 0 where
+pub record Opening (toks : Tokens) (stack₀ : List ℕ) (s : Reading) (stack : List ℕ) (t : Reading) : Type 0 where
   pub on : s.at ≤ t.at
-  pub inside : t.at ≤ n
+  pub inside : t.at ≤ toks.count
   pub written : t.out ≡ s.out
   pub few : t.depth + s.at ≡ t.at + s.depth
   pub begins : t.start ≤ t.out
   pub words : t.joined ≤ 2
   pub deep : length stack ≡ length stack₀
-  pub to_come : (fs : List ℕ) (base : List Field) (all : Read Condition) → Wanted n ks vs fs stack₀ s base all → Wanted n ks vs fs stack t base all
+  pub to_come : (fs : List ℕ) (base : List Field) (all : Read Condition) → Wanted toks fs stack₀ s base all → Wanted toks fs stack t base all

@@ -16,8 +16,9 @@ use Rattle.source.specs.declared.Token.{Token}
 use Rattle.source.specs.declared.Token.TheVariants.{Name, Number, Quoted, Binary, Compare, Mark}
 use Rattle.source.specs.Tokens.{mark_and, mark_or}
 use Rattle.source.specs.Grammar.{Read, read, next, opens, behind_first, member_by, run_by}
-use Rattle.grammar_look.specs.Internal.{left}
-use Rattle.grammar_look.proofs.Places.{left_none}
+use Rattle.grammar_look.specs.declared.Tokens.{Tokens}
+use Rattle.grammar_look.specs.Internal.{ahead}
+use Rattle.grammar_look.proofs.Places.{ahead_none}
 use Rattle.grammar_member.specs.declared.Reading.{Reading}
 use Rattle.grammar_member.specs.Internal.{Joint, free, by, code, joining_of, agreed_word, word_behind, go_on, top_of, last_of, last_place, top_by, last_by}
 use Rattle.grammar_member.proofs.Runs.{join_top}
@@ -34,9 +35,9 @@ word_few j ts =
     (λ e. either_part (λ v. v ≤ 2) _ _ _ (λ f. agreed_few j 2 (omega arith)) (λ f. omega arith))
 
 -- a word stands before the end
-pub word_inside : (ks vs : List ℕ) (n at j : ℕ) → (word_behind j (left n at ks vs) ≡ 0 → ⊥) → at < n
+pub word_inside : (toks : Tokens) (at j : ℕ) → (word_behind j (ahead toks at) ≡ 0 → ⊥) → at < toks.count
 unfolding word_behind opens pick
-word_inside ks vs n at j e = by_less at n (λ h. h) (λ h. absurd (e (rw (left_none ks vs n at h) refl)))
+word_inside toks at j e = by_less at toks.count (λ h. h) (λ h. absurd (e (rw (ahead_none toks at h) refl)))
 
 -- the word that a number stands for
 pub record Coded (w : ℕ) : Type 0 where

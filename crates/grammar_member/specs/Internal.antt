@@ -1,5 +1,5 @@
 -- What the functions that read the members of a condition do. A reader of the promises needs none of it.
-use Rattle.std.specs.Prelude.{ℕ, suc, ◌+◌, ◌-◌, ◌*◌, ◌/◌, ◌%◌, ◌<◌, ◌≤◌, ◌≡◌, false, List, [], ◌∷◌, ◌++◌, eqb, length, get_or}
+use Rattle.std.specs.Prelude.{ℕ, suc, ◌+◌, ◌-◌, ◌*◌, ◌/◌, ◌%◌, ◌<◌, ◌≤◌, ◌≡◌, false, Option, Some, None, IfSome, List, [], ◌∷◌, ◌++◌, eqb, length, get_or}
 use Rattle.base.specs.Choice.{pick}
 use Rattle.sheet.specs.declared.Joining.{Joining}
 use Rattle.sheet.specs.declared.Joining.TheVariants.{And, Or}
@@ -14,11 +14,10 @@ use Rattle.source.specs.declared.Token.{Token}
 use Rattle.source.specs.Limits.{most_cells}
 use Rattle.source.specs.Tokens.{mark_and, mark_or, mark_close}
 use Rattle.source.specs.Grammar.{Read, none, next, past, opens, opens_condition, member_by, run_by, joined_by, condition_in}
-use Rattle.grammar_look.specs.Internal.{left}
+use Rattle.grammar_look.specs.declared.Tokens.{Tokens}
+use Rattle.grammar_look.specs.Internal.{ahead}
 use Rattle.grammar_output.specs.Internal.{insert_at}
 use Rattle.grammar_member.specs.declared.Reading.{Reading}
-use Rattle.grammar_member.specs.declared.Found.{Found}
-use Rattle.grammar_member.specs.declared.Found.TheVariants.{At as FoundAt, Missing as NotFound}
 
 -- ---- words
 
@@ -157,71 +156,70 @@ pub record Inside (n : ℕ) (fs stack : List ℕ) (s : Reading) : Type 0 where
   pub ends : s.last ≤ s.out
 
 -- a token more was read, and no more fields written and brackets opened than tokens read
-abbrev pub Onward : ℕ → Reading → Found → Type 0
-Onward n s (FoundAt t) = (s.at < t.at) × (t.at ≤ n) × (s.out ≤ t.out) × (t.depth + t.out + s.at ≤ t.at + s.depth + s.out)
-Onward n s NotFound = Unit {0}
+abbrev pub Onward : ℕ → Reading → Option Reading → Type 0
+Onward n s r = IfSome r (λ t. (s.at < t.at) × (t.at ≤ n) × (s.out ≤ t.out) × (t.depth + t.out + s.at ≤ t.at + s.depth + s.out))
 
 -- a member is to come: what is to come, with the fields behind those of `base`, comes to `all`
-pub record Wanted (n : ℕ) (ks vs fs stack : List ℕ) (s : Reading) (base : List Field) (all : Read Condition) : Type 0 where
+pub record Wanted (toks : Tokens) (fs stack : List ℕ) (s : Reading) (base : List Field) (all : Read Condition) : Type 0 where
   pub frames : List Frame
   pub fuel : ℕ
   pub links : ℕ
   pub before : Before
   pub depth_of : length frames ≡ s.depth
-  pub kept : Kept n s.at base stack frames
+  pub kept : Kept toks.count s.at base stack frames
   pub fields : fields_from 0 s.out fs ≡ beneath base frames ++ fields_before before
   pub start_of : s.start ≡ length (beneath base frames)
   pub word_of_law : s.joined ≡ code (joint_of before)
-  pub enough : n ≤ s.at + 1 + fuel
-  pub enough_links : n ≤ s.at + links
+  pub enough : toks.count ≤ s.at + 1 + fuel
+  pub enough_links : toks.count ≤ s.at + links
   pub same :
       resumed fuel frames
-      (next (member_by (condition_in fuel) (left n s.at ks vs)) (λ m rest. go_on (condition_in fuel) (joint_of before) links (add before m) rest))
+      (next (member_by (condition_in fuel) (ahead toks s.at)) (λ m rest. go_on (condition_in fuel) (joint_of before) links (add before m) rest))
       ≡ all
 
 -- the same behind a member: `condition` is what is read of the innermost condition
-pub record Reached (n : ℕ) (ks vs fs stack : List ℕ) (s : Reading) (base : List Field) (all : Read Condition) : Type 0 where
+pub record Reached (toks : Tokens) (fs stack : List ℕ) (s : Reading) (base : List Field) (all : Read Condition) : Type 0 where
   pub frames : List Frame
   pub fuel : ℕ
   pub links : ℕ
   pub joint : Joint
   pub condition : Condition
   pub depth_of : length frames ≡ s.depth
-  pub kept : Kept n s.at base stack frames
+  pub kept : Kept toks.count s.at base stack frames
   pub fields : fields_from 0 s.out fs ≡ beneath base frames ++ condition_fields condition
   pub start_of : s.start ≡ length (beneath base frames)
   pub word_of_law : s.joined ≡ code joint
   pub top_of_law : s.top ≡ code (top_of condition)
   pub last_of_law : s.last ≡ length (beneath base frames) + last_of condition
-  pub enough : n ≤ s.at + 1 + fuel
-  pub enough_links : n < s.at + links
-  pub same : resumed fuel frames (go_on (condition_in fuel) joint links condition (left n s.at ks vs)) ≡ all
+  pub enough : toks.count ≤ s.at + 1 + fuel
+  pub enough_links : toks.count < s.at + links
+  pub same : resumed fuel frames (go_on (condition_in fuel) joint links condition (ahead toks s.at)) ≡ all
 
-abbrev pub Arrived : ℕ → List ℕ → List ℕ → List ℕ → List ℕ → Found → List Field → Read Condition → Type 0
-Arrived n ks vs fs stack (FoundAt t) base all = Reached n ks vs fs stack t base all
-Arrived n ks vs fs stack NotFound base all = none ≡ all
+abbrev pub Arrived : Tokens → List ℕ → List ℕ → Option Reading → List Field → Read Condition → Type 0
+Arrived toks fs stack (Some t) base all = Reached toks fs stack t base all
+Arrived toks fs stack None base all = none ≡ all
 
 -- ---- what each function does to what is to come
 
 -- the brackets before a member, from reading s on
-pub record Opens (n : ℕ) (ks vs : List ℕ) (s : Reading) (stack : List ℕ) (t : Reading) (stack₁ : List ℕ) : Type 0 where
+pub record Opens (toks : Tokens) (s : Reading) (stack : List ℕ) (t : Reading) (stack₁ : List ℕ) : Type 0 where
   pub on : s.at ≤ t.at
-  pub inside : t.at ≤ n
+  pub inside : t.at ≤ toks.count
   pub written : t.out ≡ s.out
   pub few : t.depth + s.at ≡ t.at + s.depth
-  pub unopened : opens_condition (left n t.at ks vs) ≡ false
-  pub to_come : (fs : List ℕ) (base : List Field) (all : Read Condition) → Wanted n ks vs fs stack s base all → Wanted n ks vs fs stack₁ t base all
+  pub unopened : opens_condition (ahead toks t.at) ≡ false
+  pub to_come : (fs : List ℕ) (base : List Field) (all : Read Condition) → Wanted toks fs stack s base all → Wanted toks fs stack₁ t base all
 
-abbrev pub Adds : ℕ → List ℕ → List ℕ → Reading → List ℕ → List ℕ → Found → List ℕ → List ℕ → Type 0
-Adds n ks vs s fs stack r fs₁ stack₁ =
-    (base : List Field) (all : Read Condition) → Wanted n ks vs fs stack s base all → Arrived n ks vs fs₁ stack₁ r base all
+abbrev pub Adds : Tokens → Reading → List ℕ → List ℕ → Option Reading → List ℕ → List ℕ → Type 0
+Adds toks s fs stack r fs₁ stack₁ =
+    (base : List Field) (all : Read Condition) → Wanted toks fs stack s base all → Arrived toks fs₁ stack₁ r base all
 
-abbrev pub Joins : ℕ → ℕ → List ℕ → List ℕ → Reading → List ℕ → List ℕ → Found → List ℕ → List ℕ → Type 0
-Joins w n ks vs s fs stack r fs₁ stack₁ =
-    (base : List Field) (all : Read Condition) → word_behind s.joined (left n s.at ks vs) ≡ w → Reached n ks vs fs stack s base all
-    → Arrived n ks vs fs₁ stack₁ r base all
+abbrev pub Joins : ℕ → Tokens → Reading → List ℕ → List ℕ → Option Reading → List ℕ → List ℕ → Type 0
+Joins w toks s fs stack r fs₁ stack₁ =
+    (base : List Field) (all : Read Condition) → word_behind s.joined (ahead toks s.at) ≡ w → Reached toks fs stack s base all
+    → Arrived toks fs₁ stack₁ r base all
 
-abbrev pub Closes : ℕ → List ℕ → List ℕ → Reading → List ℕ → Found → Type 0
-Closes n ks vs s stack r =
-    (fs : List ℕ) (base : List Field) (all : Read Condition) → word_behind s.joined (left n s.at ks vs) ≡ 0
-    → Reached n ks vs fs stack s base all → Arrived n ks vs fs stack r base all
+abbrev pub Closes : Tokens → Reading → List ℕ → Option Reading → Type 0
+Closes toks s stack r =
+    (fs : List ℕ) (base : List Field) (all : Read Condition) → word_behind s.joined (ahead toks s.at) ≡ 0
+    → Reached toks fs stack s base all → Arrived toks fs stack r base all

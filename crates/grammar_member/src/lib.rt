@@ -6,13 +6,13 @@
 
 ghost use Rattle.std.specs.Prelude.{◌≡◌, ◌<◌, ◌≤◌, length};
 ghost use Rattle.source.specs.Limits.{most_cells};
-ghost use Rattle.grammar_look.specs.Internal.{left};
+ghost use Rattle.grammar_look.specs.Internal.{ahead};
 ghost use Rattle.grammar_member.specs.Internal.{begun_at, agreed_word, word_behind, joining_of, top_by, last_by, outward_from};
 ghost use Rattle.grammar_member.specs.Internal.{Deep, Opens, Inside, Onward, Adds, Joins, Closes};
 
 use grammar_comparison::{comparison, opens_condition};
-use grammar_look::mark_at;
-use grammar_output::{Step, insert};
+use grammar_look::Tokens;
+use grammar_output::insert;
 use sheet::{Field, Joining};
 use source::marks::{MARK_AND, MARK_CLOSE, MARK_OR};
 
@@ -35,12 +35,6 @@ pub struct Reading {
     pub last: usize,
 }
 
-#[derive(Clone, Copy)]
-pub enum Found {
-    At(Reading),
-    Missing,
-}
-
 // Before the first member of a condition.
 pub fn begun(at: usize, out: usize, depth: usize) -> Reading
     ensures { result ≡ begun_at at out depth }
@@ -57,45 +51,38 @@ pub fn begun(at: usize, out: usize, depth: usize) -> Reading
 }
 
 // The brackets before a member: the conditions round them are put on the stack.
-fn brackets(kinds: &[u8], values: &[u32], n: usize, stack: &mut [u32], s: Reading) -> Reading
-    requires { Deep n stack.old s }
-    ensures { Opens n kinds.now values.now s stack.old result stack.new }
+fn brackets(tokens: &Tokens<'_>, stack: &mut [u32], s: Reading) -> Reading
+    requires { Deep tokens.now.count stack.old s }
+    ensures { Opens tokens.now s stack.old result stack.new }
 {
     let mut t = s;
-    while opens_condition(kinds, values, n, t.at) {
-        let d = t.depth;
-        stack[d] = t.start as u32 * 4 + t.joined;
-        t = begun(t.at + 1, t.out, d + 1);
+    while opens_condition(tokens, t.at) {
+        stack[t.depth] = t.start as u32 * 4 + t.joined;
+        t = begun(t.at + 1, t.out, t.depth + 1);
     }
     t
 }
 
 // A member: the brackets before it, and a comparison.
 pub fn member(
-    kinds: &[u8],
-    values: &[u32],
-    n: usize,
+    tokens: &Tokens<'_>,
     fields: &mut [u64],
     stack: &mut [u32],
     s: Reading,
-) -> Found
-    requires { Inside n fields.old stack.old s }
-    ensures moved { Onward n s result }
-    ensures read { Adds n kinds.now values.now s fields.old stack.old
+) -> Option<Reading>
+    requires { Inside tokens.now.count fields.old stack.old s }
+    ensures moved { Onward tokens.now.count s result }
+    ensures read { Adds tokens.now s fields.old stack.old
         result fields.new stack.new }
 {
-    let t = brackets(kinds, values, n, stack, s);
-    let Step::At(a, o) = comparison(kinds, values, n, t.at, fields, t.out) else {
-        return Found::Missing;
-    };
-    Found::At(Reading {
-        at: a,
-        out: o,
-        depth: t.depth,
-        joined: t.joined,
-        start: t.start,
+    let t = brackets(tokens, stack, s);
+    let compared = comparison(tokens, t.at, fields, t.out)?;
+    Some(Reading {
+        at: compared.at,
+        out: compared.out,
         top: t.joined,
         last: t.out,
+        ..t
     })
 }
 
@@ -113,13 +100,13 @@ fn agreed(joined: u32, w: u32) -> u32
 }
 
 // The word at a place that joins another member to those that the word `joined` joins; 0 where there is none.
-pub fn word_behind(kinds: &[u8], values: &[u32], n: usize, at: usize, joined: u32) -> u32
-    ensures { result ≡ word_behind joined (left n at kinds.now values.now) }
+pub fn word_behind(tokens: &Tokens<'_>, at: usize, joined: u32) -> u32
+    ensures { result ≡ word_behind joined (ahead tokens.now at) }
 {
-    if mark_at(kinds, values, n, at, MARK_AND) {
+    if tokens.mark_at(at, MARK_AND) {
         return agreed(joined, WORD_AND);
     }
-    if mark_at(kinds, values, n, at, MARK_OR) {
+    if tokens.mark_at(at, MARK_OR) {
         return agreed(joined, WORD_OR);
     }
     0
@@ -161,30 +148,27 @@ fn last_by(w: u32, s: Reading) -> usize
 
 // A word behind a member, and the member behind it.
 pub fn joined(
-    kinds: &[u8],
-    values: &[u32],
-    n: usize,
+    tokens: &Tokens<'_>,
     fields: &mut [u64],
     stack: &mut [u32],
     s: Reading,
     w: u32,
-) -> Found
-    requires { Inside n fields.old stack.old s × (s.at < n) × (0 < w) × (w ≤ 2) }
-    ensures moved { Onward n s result }
-    ensures read { Joins w n kinds.now values.now s fields.old stack.old
+) -> Option<Reading>
+    requires { Inside tokens.now.count fields.old stack.old s × (s.at < tokens.now.count) × (0 < w) × (w ≤ 2) }
+    ensures moved { Onward tokens.now.count s result }
+    ensures read { Joins w tokens.now s fields.old stack.old
         result fields.new stack.new }
 {
     insert(fields, last_by(w, s), s.out, Field::Run(joining_of(w), 0));
     let after = Reading {
         at: s.at + 1,
         out: s.out + 1,
-        depth: s.depth,
         joined: w,
-        start: s.start,
         top: w,
         last: s.start,
+        ..s
     };
-    member(kinds, values, n, fields, stack, after)
+    member(tokens, fields, stack, after)
 }
 
 // Behind a closing bracket: what is read is a member of the condition round it, which the word w of the stack holds.
@@ -204,13 +188,13 @@ fn outward(s: Reading, w: u32) -> Reading
 }
 
 // The closing bracket of the last that is open.
-pub fn closed(kinds: &[u8], values: &[u32], n: usize, stack: &[u32], s: Reading) -> Found
-    requires { (0 < s.depth) × (s.depth ≤ length stack.now) × (s.at ≤ n) × (n ≤ most_cells) }
-    ensures moved { Onward n s result }
-    ensures read { Closes n kinds.now values.now s stack.now result }
+pub fn closed(tokens: &Tokens<'_>, stack: &[u32], s: Reading) -> Option<Reading>
+    requires { (0 < s.depth) × (s.depth ≤ length stack.now) × (s.at ≤ tokens.now.count) × (tokens.now.count ≤ most_cells) }
+    ensures moved { Onward tokens.now.count s result }
+    ensures read { Closes tokens.now s stack.now result }
 {
-    if mark_at(kinds, values, n, s.at, MARK_CLOSE) {
-        return Found::At(outward(s, stack[s.depth - 1]));
+    if tokens.mark_at(s.at, MARK_CLOSE) {
+        return Some(outward(s, stack[s.depth - 1]));
     }
-    Found::Missing
+    None
 }

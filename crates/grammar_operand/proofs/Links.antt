@@ -4,6 +4,7 @@ use mathlib.Core.Path.{◌≡◌, refl, ap₂}
 use mathlib.Core.List.{List, [], ◌∷◌, ◌++◌}
 use native.Mathlib.Omega.{arith}
 use lib.ListN.{length}
+use Rattle.std.specs.Prelude.{Some, None}
 use Rattle.base.proofs.Cases.{either_part}
 use Rattle.sheet.specs.declared.Operator.{Operator}
 use Rattle.sheet.specs.declared.Field.{Field}
@@ -13,14 +14,13 @@ use Rattle.sheet.specs.Fields.{expression_fields}
 use Rattle.source.specs.declared.Token.{Token}
 use Rattle.source.specs.declared.Token.TheVariants.{Name, Number, Quoted, Binary, Compare, Mark}
 use Rattle.source.specs.Grammar.{Read, read, none, next, behind_first}
-use Rattle.grammar_look.specs.declared.Link.TheVariants.{By as LinkBy, Missing as NoLink}
 use Rattle.grammar_look.specs.Internal.{first_link}
 use Rattle.grammar_output.specs.declared.Places.{Places}
 use Rattle.grammar_output.specs.Internal.{written, insert_at, place_for, places_after}
 use Rattle.grammar_operand.specs.Internal.{links_pass, operand_pass, WithinPlaces}
 
 module _ (inner : List Token → Read Expression) (p : Places) (fs : List Field) where
-  pub links_stop : (j : ℕ) (ts : List Token) → first_link ts ≡ NoLink → read fs ts ≡ links_pass inner (suc j) p fs ts
+  pub links_stop : (j : ℕ) (ts : List Token) → first_link ts ≡ None → read fs ts ≡ links_pass inner (suc j) p fs ts
   unfolding links_pass
   links_stop j [] e = refl
   links_stop j (Name w ∷ ts) e = refl
@@ -30,7 +30,7 @@ module _ (inner : List Token → Read Expression) (p : Places) (fs : List Field)
   links_stop j (Compare r ∷ ts) e = refl
   links_stop j (Mark m ∷ ts) e = refl
 
-  pub links_more : (j : ℕ) (o : Operator) (ts : List Token) → first_link ts ≡ LinkBy o
+  pub links_more : (j : ℕ) (o : Operator) (ts : List Token) → first_link ts ≡ Some o
       → links_pass inner (suc j) p fs ts
       ≡ operand_pass inner j (places_after p o (length fs + 1)) (insert_at (place_for p o) (BinaryField o) fs) (behind_first ts)
   unfolding links_pass behind_first

@@ -1,5 +1,5 @@
 -- What the functions that read operands do. A reader of the promises needs none of it.
-use Rattle.std.specs.Prelude.{ℕ, zero, suc, ◌+◌, ◌<◌, ◌≤◌, ◌≡◌, List, [], ◌∷◌, ◌++◌, length, get_or}
+use Rattle.std.specs.Prelude.{ℕ, zero, suc, ◌+◌, ◌<◌, ◌≤◌, ◌≡◌, Option, Some, None, IfSome, List, [], ◌∷◌, ◌++◌, length, get_or}
 use Rattle.sheet.specs.declared.Operator.{Operator}
 use Rattle.sheet.specs.declared.Field.{Field}
 use Rattle.sheet.specs.declared.Field.TheVariants.{Binary as BinaryField}
@@ -11,14 +11,12 @@ use Rattle.source.specs.declared.Token.TheVariants.{Name, Number, Quoted, Binary
 use Rattle.source.specs.Limits.{most_cells}
 use Rattle.source.specs.Tokens.{mark_close}
 use Rattle.source.specs.Grammar.{Read, read, none, next, past, operand_by, expression_in}
-use Rattle.grammar_look.specs.declared.Link.TheVariants.{By as LinkBy, Missing as NoLink}
-use Rattle.grammar_look.specs.Internal.{left, first_link}
+use Rattle.grammar_look.specs.declared.Tokens.{Tokens}
+use Rattle.grammar_look.specs.Internal.{ahead, first_link}
 use Rattle.grammar_output.specs.declared.Places.{Places}
 use Rattle.grammar_output.specs.Internal.{insert_at, Small, places_word, place_for, places_after}
 use Rattle.grammar_lead.specs.declared.Opened.{Opened}
 use Rattle.grammar_operand.specs.declared.Reading.{Reading}
-use Rattle.grammar_operand.specs.declared.Found.{Found}
-use Rattle.grammar_operand.specs.declared.Found.TheVariants.{At as FoundAt, Missing as NotFound}
 
 -- an expression and the closing bracket behind it
 abbrev pub bracketed_by : (List Token → Read Expression) → List Token → Read Expression
@@ -93,39 +91,38 @@ pub record Inside (n : ℕ) (fs stack : List ℕ) (s : Reading) : Type 0 where
   pub within : WithinPlaces s.out s.places
 
 -- a token more was read, and no more fields written and brackets opened than tokens read
-abbrev pub Onward : ℕ → Reading → Found → Type 0
-Onward n s (FoundAt t) = (s.at < t.at) × (t.at ≤ n) × (s.out ≤ t.out) × (t.depth + t.out + s.at ≤ t.at + s.depth + s.out)
-Onward n s NotFound = Unit {0}
+abbrev pub Onward : ℕ → Reading → Option Reading → Type 0
+Onward n s r = IfSome r (λ t. (s.at < t.at) × (t.at ≤ n) × (s.out ≤ t.out) × (t.depth + t.out + s.at ≤ t.at + s.depth + s.out))
 
 -- what is to come comes to `all`: `pass` is what is to come of the innermost expression
 pub record Reached
     (pass : (List Token → Read Expression) → ℕ → Places → List Field → List Token → Read (List Field))
-    (n : ℕ) (ks vs fs stack : List ℕ) (s : Reading) (all : Read (List Field)) : Type 0 where
+    (toks : Tokens) (fs stack : List ℕ) (s : Reading) (all : Read (List Field)) : Type 0 where
   pub frames : List Frame
   pub fuel : ℕ
   pub links : ℕ
   pub depth_of : length frames ≡ s.depth
-  pub kept : Kept n s.at s.out stack frames
+  pub kept : Kept toks.count s.at s.out stack frames
   pub within : WithinPlaces s.out s.places
-  pub enough : n ≤ s.at + fuel
-  pub enough_links : n < s.at + links
-  pub same : resumed fuel frames (pass (expression_in fuel) links s.places (fields_from 0 s.out fs) (left n s.at ks vs)) ≡ all
+  pub enough : toks.count ≤ s.at + fuel
+  pub enough_links : toks.count < s.at + links
+  pub same : resumed fuel frames (pass (expression_in fuel) links s.places (fields_from 0 s.out fs) (ahead toks s.at)) ≡ all
 
-abbrev pub Arrived : ℕ → List ℕ → List ℕ → List ℕ → List ℕ → Found → Read (List Field) → Type 0
-Arrived n ks vs fs stack (FoundAt t) all = Reached links_pass n ks vs fs stack t all
-Arrived n ks vs fs stack NotFound all = none ≡ all
+abbrev pub Arrived : Tokens → List ℕ → List ℕ → Option Reading → Read (List Field) → Type 0
+Arrived toks fs stack (Some t) all = Reached links_pass toks fs stack t all
+Arrived toks fs stack None all = none ≡ all
 
 -- what each function does to what is to come
-abbrev pub Operates : ℕ → List ℕ → List ℕ → Reading → List ℕ → List ℕ → Found → List ℕ → List ℕ → Type 0
-Operates n ks vs s fs stack r fs₁ stack₁ =
-    (all : Read (List Field)) → Reached operand_pass n ks vs fs stack s all → Arrived n ks vs fs₁ stack₁ r all
+abbrev pub Operates : Tokens → Reading → List ℕ → List ℕ → Option Reading → List ℕ → List ℕ → Type 0
+Operates toks s fs stack r fs₁ stack₁ =
+    (all : Read (List Field)) → Reached operand_pass toks fs stack s all → Arrived toks fs₁ stack₁ r all
 
-abbrev pub Links : Operator → ℕ → List ℕ → List ℕ → Reading → List ℕ → List ℕ → Found → List ℕ → List ℕ → Type 0
-Links o n ks vs s fs stack r fs₁ stack₁ =
-    (all : Read (List Field)) → first_link (left n s.at ks vs) ≡ LinkBy o → Reached links_pass n ks vs fs stack s all
-    → Arrived n ks vs fs₁ stack₁ r all
+abbrev pub Links : Operator → Tokens → Reading → List ℕ → List ℕ → Option Reading → List ℕ → List ℕ → Type 0
+Links o toks s fs stack r fs₁ stack₁ =
+    (all : Read (List Field)) → first_link (ahead toks s.at) ≡ Some o → Reached links_pass toks fs stack s all
+    → Arrived toks fs₁ stack₁ r all
 
-abbrev pub Closes : ℕ → List ℕ → List ℕ → Reading → List ℕ → Found → Type 0
-Closes n ks vs s stack r =
-    (fs : List ℕ) (all : Read (List Field)) → first_link (left n s.at ks vs) ≡ NoLink → Reached links_pass n ks vs fs stack s all
-    → Arrived n ks vs fs stack r all
+abbrev pub Closes : Tokens → Reading → List ℕ → Option Reading → Type 0
+Closes toks s stack r =
+    (fs : List ℕ) (all : Read (List Field)) → first_link (ahead toks s.at) ≡ None → Reached links_pass toks fs stack s all
+    → Arrived toks fs stack r all

@@ -8,7 +8,7 @@ ghost use Rattle.source.specs.Limits.{most_cells};
 ghost use Rattle.grammar_operand.specs.Internal.{begun_at, Inside, Onward, Operates, Links, Closes};
 
 use grammar_lead::{Opened, open};
-use grammar_look::{Operand, mark_at, operand_at};
+use grammar_look::{Operand, Tokens};
 use grammar_output::{Places, insert, place_for, places_after, places_of, put, word_of};
 use sheet::{Field, Operator};
 use source::marks::MARK_CLOSE;
@@ -20,12 +20,6 @@ pub struct Reading {
     pub out: usize,
     pub depth: usize,
     pub places: Places,
-}
-
-#[derive(Clone, Copy)]
-pub enum Found {
-    At(Reading),
-    Missing,
 }
 
 // Behind what an expression begins with, of which the first field is at place `out`.
@@ -46,84 +40,72 @@ pub fn begun(out: usize, o: Opened, depth: usize) -> Reading
 
 // An operand: the brackets before it, which are put on the stack, and a name or a constant.
 pub fn operand(
-    kinds: &[u8],
-    values: &[u32],
-    n: usize,
+    tokens: &Tokens<'_>,
     fields: &mut [u64],
     stack: &mut [u32],
     s: Reading,
-) -> Found
-    requires { Inside n fields.old stack.old s }
-    ensures moved { Onward n s result }
-    ensures read { Operates n kinds.now values.now s fields.old stack.old
-        result fields.new stack.new }
+) -> Option<Reading>
+    requires { Inside tokens.now.count fields.old stack.old s }
+    ensures moved { Onward tokens.now.count s result }
+    ensures read { Operates tokens.now s fields.old stack.old result
+        fields.new stack.new }
 {
     let mut t = s;
-    while t.at < n {
-        let p = t.places;
-        match operand_at(kinds, values, n, t.at) {
+    loop {
+        match tokens.operand_at(t.at)? {
             Operand::Plain(f) => {
                 put(fields, t.out, f);
-                return Found::At(Reading {
+                return Some(Reading {
                     at: t.at + 1,
                     out: t.out + 1,
-                    depth: t.depth,
-                    places: p,
+                    ..t
                 });
             }
             Operand::Open => {
-                let d = t.depth;
-                stack[d] = word_of(p);
-                let o = open(kinds, values, n, t.at + 1, fields, t.out);
-                t = begun(t.out, o, d + 1);
-            }
-            Operand::Missing => {
-                return Found::Missing;
+                stack[t.depth] = word_of(t.places);
+                let o = open(tokens, t.at + 1, fields, t.out);
+                t = begun(t.out, o, t.depth + 1);
             }
         }
     }
-    Found::Missing
 }
 
 // An operator behind an operand, and the operand behind it.
 pub fn linked(
-    kinds: &[u8],
-    values: &[u32],
-    n: usize,
+    tokens: &Tokens<'_>,
     fields: &mut [u64],
     stack: &mut [u32],
     s: Reading,
     o: Operator,
-) -> Found
-    requires { Inside n fields.old stack.old s × (s.at < n) }
-    ensures moved { Onward n s result }
-    ensures read { Links o n kinds.now values.now s fields.old stack.old
-        result fields.new stack.new }
+) -> Option<Reading>
+    requires { Inside tokens.now.count fields.old stack.old s × (s.at < tokens.now.count) }
+    ensures moved { Onward tokens.now.count s result }
+    ensures read { Links o tokens.now s fields.old stack.old result
+        fields.new stack.new }
 {
-    let p = s.places;
-    insert(fields, place_for(p, o), s.out, Field::Binary(o));
+    insert(fields, place_for(s.places, o), s.out, Field::Binary(o));
     let after = Reading {
         at: s.at + 1,
         out: s.out + 1,
-        depth: s.depth,
-        places: places_after(p, o, s.out + 1),
+        places: places_after(s.places, o, s.out + 1),
+        ..s
     };
-    operand(kinds, values, n, fields, stack, after)
+    operand(tokens, fields, stack, after)
 }
 
 // The closing bracket of the last that is open.
-pub fn closed(kinds: &[u8], values: &[u32], n: usize, stack: &[u32], s: Reading) -> Found
-    requires { (0 < s.depth) × (s.depth ≤ length stack.now) × (s.at ≤ n) × (n ≤ most_cells) }
-    ensures moved { Onward n s result }
-    ensures read { Closes n kinds.now values.now s stack.now result }
+pub fn closed(tokens: &Tokens<'_>, stack: &[u32], s: Reading) -> Option<Reading>
+    requires { (0 < s.depth) × (s.depth ≤ length stack.now) × (s.at ≤ tokens.now.count) × (tokens.now.count ≤ most_cells) }
+    ensures moved { Onward tokens.now.count s result }
+    ensures read { Closes tokens.now s stack.now result }
 {
-    if mark_at(kinds, values, n, s.at, MARK_CLOSE) {
-        return Found::At(Reading {
+    if tokens.mark_at(s.at, MARK_CLOSE) {
+        return Some(Reading {
             at: s.at + 1,
-            out: s.out,
             depth: s.depth - 1,
             places: places_of(stack[s.depth - 1]),
+            ..s
         });
     }
-    Found::Missing
+    None
 }

@@ -1,39 +1,35 @@
-use mathlib.Core.Path.{subst}
-use native.Mathlib.Omega.{arith}
+use mathlib.Core.List.{[]}
 use Rattle.sheet_field.specs.Memory.{fields_from}
-use Rattle.grammar_instruction.specs.Internal.{MovedOn}
 use Rattle.grammar.proofs.Statements.{labels_alone, no_instruction_law, whole_instruction, opening_instruction, more_behind}
 use Rattle.grammar.proofs.labelled.Goals as goal
 
-pub returns-then-c-n : goal.returns-then-c-n
-returns-then-c-n c = record { read = labels_alone _ _ _ _ c.labels-c.ensures c.if-c-n.true; few = c.labels-c.ensures.inside }
+pub returns-then-c-tokens-clause-read : goal.returns-then-c-tokens-clause-read
+returns-then-c-tokens-clause-read c =
+    labels_alone c.args.tokens.now _ c.labels-c.ensures c.if-c-tokens.true
 
-pub returns-then-a-n : goal.returns-then-a-n
+pub returns-in-Some-Whole-clause-read : goal.returns-in-Some-Whole-clause-read
 unfolding fields_from
-returns-then-a-n c =
-    let e = c.in-Whole.is in
-    let m = subst (MovedOn _ _ _ _) e c.instruction.ensures.moved in record { read = whole_instruction _ _ _ _ c.labels-c.ensures _ c.if-c-n.false c.if-a-n.true _ (rw e at c.instruction.ensures.read); few = (c.labels-c.ensures.inside, omega (arith, m)) }
+returns-in-Some-Whole-clause-read c =
+    whole_instruction c.args.tokens.now _ c.labels-c.ensures _ c.if-c-tokens.false c.if-s-tokens.true _ (rw c.in-Some-Whole.field-0-is at c.in-Some-Whole.ensures.read)
 
-pub returns-then-b-n : goal.returns-then-b-n
+pub returns-in-Some-Opening-clause-read : goal.returns-in-Some-Opening-clause-read
 unfolding fields_from
-returns-then-b-n c =
-    let e = c.in-Opening.is in
-    let m = subst (MovedOn _ _ _ _) e c.instruction.ensures.moved in record { read = opening_instruction _ _ _ _ c.labels-c.ensures _ c.if-c-n.false c.if-b-n.true _ (rw e at c.instruction.ensures.read); few = (c.labels-c.ensures.inside, omega (arith, m)) }
+returns-in-Some-Opening-clause-read c =
+    opening_instruction c.args.tokens.now _ c.labels-c.ensures _ c.if-c-tokens.false c.if-s-tokens-2.true _ (rw c.in-Some-Opening.field-0-is at c.in-Some-Opening.ensures.read)
 
-pub returns-else-a-n : goal.returns-else-a-n
+pub returns-in_default-clause-read : goal.returns-in_default-clause-read
 unfolding fields_from
-returns-else-a-n c =
-    let e = c.in-Whole.is in
-    let m = subst (MovedOn _ _ _ _) e c.instruction.ensures.moved in
-    record { read = more_behind _ _ _ _ c.labels-c.ensures _ c.if-c-n.false _ c.if-a-n.false m.1 (rw e at c.instruction.ensures.read); few = tt }
+returns-in_default-clause-read c =
+    let moved = rw c.in-Some-Whole.field-0-is at c.in-Some-Whole.ensures.moved in
+    more_behind c.args.tokens.now _ c.labels-c.ensures _ c.if-c-tokens.false _ c.if-s-tokens.false moved.1 (rw c.in-Some-Whole.field-0-is at c.in-Some-Whole.ensures.read)
 
-pub returns-else-b-n : goal.returns-else-b-n
+pub returns-in_default-2-clause-read : goal.returns-in_default-2-clause-read
 unfolding fields_from
-returns-else-b-n c =
-    let e = c.in-Opening.is in
-    let m = subst (MovedOn _ _ _ _) e c.instruction.ensures.moved in
-    record { read = more_behind _ _ _ _ c.labels-c.ensures _ c.if-c-n.false _ c.if-b-n.false m.1 (rw e at c.instruction.ensures.read); few = tt }
+returns-in_default-2-clause-read c =
+    let moved = rw c.in-Some-Opening.field-0-is at c.in-Some-Opening.ensures.moved in
+    more_behind c.args.tokens.now _ c.labels-c.ensures _ c.if-c-tokens.false _ c.if-s-tokens-2.false moved.1 (rw c.in-Some-Opening.field-0-is at c.in-Some-Opening.ensures.read)
 
-pub returns-in-Missing : goal.returns-in-Missing
-returns-in-Missing c =
-    record { read = no_instruction_law _ _ _ _ c.labels-c.ensures _ c.if-c-n.false (rw c.in-Missing.is at c.instruction.ensures.read); few = tt }
+pub returns-in_default-3-clause-read : goal.returns-in_default-3-clause-read
+unfolding fields_from
+returns-in_default-3-clause-read c =
+    no_instruction_law c.args.tokens.now _ c.labels-c.ensures [] c.if-c-tokens.false (rw c.in_default.is at c.instruction.ensures.read)

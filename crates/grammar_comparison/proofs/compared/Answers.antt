@@ -1,29 +1,18 @@
-use mathlib.Core.Path.{sym, subst, ◌∙◌}
-use native.Mathlib.Omega.{arith}
+use mathlib.Core.Path.{sym, ◌∙◌}
 use Rattle.sheet_field.proofs.Stored.{fields_length}
-use Rattle.grammar_look.specs.Internal.{relation_inside}
-use Rattle.grammar_output.specs.Internal.{Moved}
 use Rattle.grammar_comparison.proofs.Comparisons.{compared_missing, compared_unrelated, compared_found}
 use Rattle.grammar_comparison.proofs.compared.Goals as goal
 
-pub returns-in_default : goal.returns-in_default
-returns-in_default c =
-    record { moved = tt; read = compared_missing _ _ _ _ _ (rw c.in_default.is at c.expression-first.ensures.read) }
+pub returns-in_err-first-clause-read : goal.returns-in_err-first-clause-read
+returns-in_err-first-clause-read c =
+    rw c.from_residual.ensures (compared_missing _ c.args.tokens.now _ c.in_err-first.ensures.read)
 
-pub returns-in_default-relation_at : goal.returns-in_default-relation_at
-returns-in_default-relation_at c =
-    record {
-      moved = tt;
-      read = compared_unrelated _ _ _ _ _ _ _ (rw c.in-At.is at c.expression-first.ensures.read)
-          (sym c.relation_at.ensures.found ∙ c.in_default-relation_at.is);
-    }
+pub returns-in_err-s-clause-read : goal.returns-in_err-s-clause-read
+returns-in_err-s-clause-read c =
+    rw c.from_residual-in_err-s.ensures
+    (compared_unrelated _ c.args.tokens.now _ _ _ c.in_ok-first.ensures.read (sym c.relation_at.ensures.found ∙ c.in_err-s.was))
 
-pub returns : goal.returns
-returns c =
-    let m = subst (Moved _ _ _ _) c.in-At.is c.expression-first.ensures.moved in
-    let e = c.in-By.is in
-    let h = subst (relation_inside _ _) e c.relation_at.ensures.inside in record {
-      moved = (omega (arith, m), omega (arith, h), omega (arith, m), omega (arith, m));
-      read = compared_found _ _ _ _ _ _ _ _ _ _ (rw c.in-At.is at c.expression-first.ensures.read)
-          (sym c.relation_at.ensures.found ∙ e) h (fields_length 0 _ _) c.insert.ensures;
-    }
+pub returns-clause-read : goal.returns-clause-read
+returns-clause-read c =
+    compared_found _ c.args.tokens.now _ _ _ _ _ _ c.in_ok-first.ensures.read (sym c.relation_at.ensures.found ∙ c.in_ok-s.was)
+    c.in_ok-s.ensures.inside (fields_length 0 _ _) c.insert.ensures

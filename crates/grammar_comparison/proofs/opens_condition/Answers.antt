@@ -4,7 +4,7 @@ use Rattle.grammar_comparison.proofs.opens_condition.Goals as goal
 
 pub returns-then-mark_at : goal.returns-then-mark_at
 returns-then-mark_at c =
-    bracket_opens _ _ _ _ _ (c.mark_at.ensures.inside c.if-mark_at.true) (sym c.mark_at.ensures.found ∙ c.if-mark_at.true) c.holds_relation.ensures
+    bracket_opens c.args.tokens.now _ _ (c.mark_at.ensures.inside c.if-mark_at.true) (sym c.mark_at.ensures.found ∙ c.if-mark_at.true) c.holds_relation.ensures
 
-pub returns : goal.returns
-returns c = no_bracket _ _ _ _ (sym c.mark_at.ensures.found ∙ c.if-mark_at.false)
+pub returns-else-mark_at : goal.returns-else-mark_at
+returns-else-mark_at c = c.if-mark_at.false ∙ no_bracket c.args.tokens.now _ (sym c.mark_at.ensures.found ∙ c.if-mark_at.false)

@@ -3,7 +3,7 @@ use Rattle.grammar_condition.proofs.Whole.{Following}
 use Rattle.grammar_condition.proofs.condition.Given as goal
 
 abbrev pub invariant-loop-stack : goal.invariant-loop-stack
-invariant-loop-stack l = Following l.n l.kinds l.values l.initial.fields l.initial.stack l.initial.s l.fields l.stack l.s
+invariant-loop-stack l = Following l.tokens l.initial.fields l.initial.stack l.initial.s l.fields l.stack l.s
 
 abbrev pub decreases-loop-stack : goal.decreases-loop-stack
-decreases-loop-stack l = l.n - l.s.at
+decreases-loop-stack l = l.tokens.count - l.s.at

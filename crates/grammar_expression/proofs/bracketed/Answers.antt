@@ -1,21 +1,18 @@
-use mathlib.Core.Path.{sym, subst, ◌∙◌}
-use native.Mathlib.Omega.{arith}
+use mathlib.Core.Path.{sym, ◌∙◌}
 use Rattle.sheet.specs.Fields.{expression_fields}
-use Rattle.grammar_look.proofs.Places.{left_behind}
-use Rattle.grammar_output.specs.Internal.{Moved}
+use Rattle.grammar_look.proofs.Places.{ahead_behind}
 use Rattle.grammar_expression.proofs.Closing.{next_none, closed, unclosed}
 use Rattle.grammar_expression.proofs.bracketed.Goals as goal
 
-pub returns-in_default : goal.returns-in_default
-returns-in_default c =
-    record { moved = tt; read = next_none _ expression_fields expression_fields _ _ (rw c.in_default.is at c.expression-inner.ensures.read) }
+pub returns-in_err-inner-clause-read : goal.returns-in_err-inner-clause-read
+returns-in_err-inner-clause-read c =
+    rw c.from_residual.ensures (next_none _ expression_fields expression_fields _ _ c.in_err-inner.ensures.read)
 
-pub returns-then-mark_at : goal.returns-then-mark_at
-returns-then-mark_at c =
-    let e = c.in-At.is in
-    let m = subst (Moved _ _ _ _) e c.expression-inner.ensures.moved in
-    let h = c.mark_at.ensures.inside c.if-mark_at.true in record { moved = (omega (arith, m), omega (arith, h), m.2, omega (arith, m)); read = rw (left_behind _ _ _ _ h) (closed _ _ _ _ (rw e at c.expression-inner.ensures.read) (sym c.mark_at.ensures.found ∙ c.if-mark_at.true)) }
+pub returns-then-mark_at-clause-read : goal.returns-then-mark_at-clause-read
+returns-then-mark_at-clause-read c =
+    rw (ahead_behind c.args.tokens.now _ (c.mark_at.ensures.inside c.if-mark_at.true))
+    (closed _ _ _ _ c.in_ok-inner.ensures.read (sym c.mark_at.ensures.found ∙ c.if-mark_at.true))
 
-pub returns : goal.returns
-returns c =
-    record { moved = tt; read = unclosed _ _ _ _ (rw c.in-At.is at c.expression-inner.ensures.read) (sym c.mark_at.ensures.found ∙ c.if-mark_at.false) }
+pub returns-clause-read : goal.returns-clause-read
+returns-clause-read c =
+    unclosed _ _ _ _ c.in_ok-inner.ensures.read (sym c.mark_at.ensures.found ∙ c.if-mark_at.false)

@@ -3,7 +3,7 @@ use Rattle.grammar_expression.proofs.Whole.{Following}
 use Rattle.grammar_expression.proofs.expression.Given as goal
 
 abbrev pub invariant-loop-o : goal.invariant-loop-o
-invariant-loop-o l = Following l.n l.kinds l.values l.initial.fields l.initial.stack l.initial.s l.fields l.stack l.s
+invariant-loop-o l = Following l.tokens l.initial.fields l.initial.stack l.initial.s l.fields l.stack l.s
 
 abbrev pub decreases-loop-o : goal.decreases-loop-o
-decreases-loop-o l = l.n - l.s.at
+decreases-loop-o l = l.tokens.count - l.s.at

@@ -1,18 +1,18 @@
-use mathlib.Core.Path.{refl, sym, subst, ◌∙◌}
+use mathlib.Core.Path.{refl, sym, ap, ◌∙◌}
 use mathlib.Core.List.{append-nil}
 use native.Mathlib.Omega.{arith}
+use Rattle.std.specs.Prelude.{Some}
 use Rattle.source.specs.Grammar.{bare, minus, invert}
-use Rattle.grammar_look.specs.Internal.{lead_inside}
 use Rattle.grammar_lead.proofs.Starts.{plus_start, minus_start, invert_start, bare_start}
 use Rattle.grammar_lead.proofs.open.Goals as goal
 
-pub returns-in-Plus : goal.returns-in-Plus
-returns-in-Plus c =
-    let e = c.in-Plus.is in
-    let h = subst (lead_inside _ _) e c.lead_at.ensures.inside in
+pub returns-in-Some-Plus : goal.returns-in-Some-Plus
+returns-in-Some-Plus c =
+    let e = c.in-Some-Plus.is ∙ ap Some c.in-Some-Plus.field-0-is in
+    let h = c.in-Some-Plus.ensures.inside in
     record {
       lead = bare;
-      tokens = plus_start _ _ _ _ (sym c.lead_at.ensures.found ∙ e) h;
+      tokens = plus_start c.args.tokens.now _ (sym c.lead_at.ensures.found ∙ e) h;
       fields = sym (append-nil _);
       upper = refl;
       upper_within = omega arith;
@@ -22,14 +22,14 @@ returns-in-Plus c =
       few = omega arith;
     }
 
-pub returns-in-Minus : goal.returns-in-Minus
-returns-in-Minus c =
-    let e = c.in-Minus.is in
-    let h = subst (lead_inside _ _) e c.lead_at.ensures.inside in
+pub returns-in-Some-Minus : goal.returns-in-Some-Minus
+returns-in-Some-Minus c =
+    let e = c.in-Some-Minus.is ∙ ap Some c.in-Some-Minus.field-0-is in
+    let h = c.in-Some-Minus.ensures.inside in
     let s = c.signed.ensures in
     record {
       lead = minus;
-      tokens = rw s.token_behind (minus_start _ _ _ _ (sym c.lead_at.ensures.found ∙ e) h);
+      tokens = rw s.token_behind (minus_start c.args.tokens.now _ (sym c.lead_at.ensures.found ∙ e) h);
       fields = s.fields;
       upper = s.upper_given;
       upper_within = omega (arith, s);
@@ -39,14 +39,14 @@ returns-in-Minus c =
       few = omega (arith, s);
     }
 
-pub returns-in-Invert : goal.returns-in-Invert
-returns-in-Invert c =
-    let e = c.in-Invert.is in
-    let h = subst (lead_inside _ _) e c.lead_at.ensures.inside in
-    let s = c.signed-in-Invert.ensures in
+pub returns-in-Some-Invert : goal.returns-in-Some-Invert
+returns-in-Some-Invert c =
+    let e = c.in-Some-Invert.is ∙ ap Some c.in-Some-Invert.field-0-is in
+    let h = c.in-Some-Invert.ensures.inside in
+    let s = c.signed-in-Some-Invert.ensures in
     record {
       lead = invert;
-      tokens = rw s.token_behind (invert_start _ _ _ _ (sym c.lead_at.ensures.found ∙ e) h);
+      tokens = rw s.token_behind (invert_start c.args.tokens.now _ (sym c.lead_at.ensures.found ∙ e) h);
       fields = s.fields;
       upper = s.upper_given;
       upper_within = omega (arith, s);
@@ -56,12 +56,12 @@ returns-in-Invert c =
       few = omega (arith, s);
     }
 
-pub returns-in-Missing : goal.returns-in-Missing
-returns-in-Missing c =
-    let e = c.in-Missing.is in
+pub returns-in-None : goal.returns-in-None
+returns-in-None c =
+    let e = c.in-None.is in
     record {
       lead = bare;
-      tokens = bare_start _ _ _ _ (sym c.lead_at.ensures.found ∙ e);
+      tokens = bare_start c.args.tokens.now _ (sym c.lead_at.ensures.found ∙ e);
       fields = sym (append-nil _);
       upper = refl;
       upper_within = omega arith;

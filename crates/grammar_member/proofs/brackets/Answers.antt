@@ -6,22 +6,22 @@ use Rattle.grammar_comparison.proofs.Relations.{opens_inside}
 use Rattle.grammar_member.proofs.Levels.{opened}
 use Rattle.grammar_member.proofs.brackets.Goals as goal
 
-pub bounds-stack-d : goal.bounds-stack-d
-bounds-stack-d c =
-    let i = c.loop-d.invariant in
-    let h = opens_inside _ _ _ _ (sym c.opens_condition.ensures ∙ c.loop-d-test.true) in
+pub bounds-stack-t : goal.bounds-stack-t
+bounds-stack-t c =
+    let i = c.loop-stack.invariant in
+    let h = opens_inside c.args.tokens.now _ (sym c.opens_condition.ensures ∙ c.loop-stack-test.true) in
     omega (arith, i.few, i.deep, h, c.requires.few, c.requires.short, c.requires.deep)
 
-pub loop-d-smaller : goal.loop-d-smaller
-loop-d-smaller c =
-    let h = opens_inside _ _ _ _ (sym c.opens_condition.ensures ∙ c.loop-d-test.true) in
+pub loop-stack-smaller : goal.loop-stack-smaller
+loop-stack-smaller c =
+    let h = opens_inside c.args.tokens.now _ (sym c.opens_condition.ensures ∙ c.loop-stack-test.true) in
     rw c.begun-t.ensures (omega (arith, h))
 
-pub loop-d-preserved : goal.loop-d-preserved
-loop-d-preserved c =
-    let i = c.loop-d.invariant in
-    let e = sym c.opens_condition.ensures ∙ c.loop-d-test.true in
-    let h = opens_inside _ _ _ _ e in
+pub loop-stack-preserved : goal.loop-stack-preserved
+loop-stack-preserved c =
+    let i = c.loop-stack.invariant in
+    let e = sym c.opens_condition.ensures ∙ c.loop-stack-test.true in
+    let h = opens_inside c.args.tokens.now _ e in
     let p = c.requires in
     rw c.begun-t.ensures
     (record {
@@ -31,6 +31,6 @@ loop-d-preserved c =
       few = omega (arith, i.few);
       begins = omega arith;
       words = omega arith;
-      deep = length-set c.loop-d.stack c.loop-d.t.depth (c.loop-d.t.start * 4 + c.loop-d.t.joined) ∙ i.deep;
-      to_come = λ fs base all r. opened _ _ _ _ _ _ _ _ e (omega (arith, i.few, i.deep, h, p.few, p.short, p.deep)) (i.to_come fs base all r);
+      deep = length-set c.loop-stack.stack c.loop-stack.t.depth (c.loop-stack.t.start * 4 + c.loop-stack.t.joined) ∙ i.deep;
+      to_come = λ fs base all r. opened _ _ _ _ _ _ e (omega (arith, i.few, i.deep, h, p.few, p.short, p.deep)) (i.to_come fs base all r);
     })

@@ -2,8 +2,8 @@ use Prim.Native.Nat.{◌-◌}
 use Rattle.grammar_member.proofs.Levels.{Opening}
 use Rattle.grammar_member.proofs.brackets.Given as goal
 
-abbrev pub invariant-loop-d : goal.invariant-loop-d
-invariant-loop-d l = Opening l.n l.kinds l.values l.initial.stack l.initial.t l.stack l.t
+abbrev pub invariant-loop-stack : goal.invariant-loop-stack
+invariant-loop-stack l = Opening l.tokens l.initial.stack l.initial.t l.stack l.t
 
-abbrev pub decreases-loop-d : goal.decreases-loop-d
-decreases-loop-d l = l.n - l.t.at
+abbrev pub decreases-loop-stack : goal.decreases-loop-stack
+decreases-loop-stack l = l.tokens.count - l.t.at

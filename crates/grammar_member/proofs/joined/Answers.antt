@@ -15,8 +15,8 @@ pub returns : goal.returns
 returns c =
     let a = c.args in
     let p = c.requires in record {
-      moved = onward_later a.n a.s
+      moved = onward_later a.tokens.now.count a.s
           (record { at = a.s.at + 1; out = a.s.out + 1; depth = a.s.depth; joined = a.w; start = a.s.start; top = a.w; last = a.s.start }) c.member.result (omega arith) (omega arith) (omega arith) c.member.ensures.moved;
       read = λ base all e r. c.member.ensures.read base all
-          (word_turn _ _ _ _ _ _ _ _ _ _ _ _ (coded a.w p.2 p.3) e p.1 (rw (c.last_by.ensures, c.joining_of.ensures) at c.insert.ensures) r);
+          (word_turn _ _ _ _ _ _ _ _ _ _ (coded a.w p.2 p.3) e p.1 (rw (c.last_by.ensures, c.joining_of.ensures) at c.insert.ensures) r);
     }

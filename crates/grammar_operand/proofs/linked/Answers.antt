@@ -24,10 +24,10 @@ operand-requires c =
 pub returns : goal.returns
 returns c =
     record {
-      moved = onward_later c.args.n c.args.s
+      moved = onward_later c.args.tokens.now.count c.args.s
           (record { at = c.args.s.at + 1; out = c.args.s.out + 1; depth = c.args.s.depth; places = c.places_after.result }) c.operand.result (omega arith) (omega arith) (omega arith) c.operand.ensures.moved;
       read = λ all e r. c.operand.ensures.read all
           (rw c.places_after.ensures
-          (link_turn _ _ _ _ _ _ _ _ _ c.requires.1 e (rw c.place_for.ensures at c.insert.ensures)
+          (link_turn _ _ _ _ _ _ _ c.requires.1 e (rw c.place_for.ensures at c.insert.ensures)
           (after_within _ _ _ c.args.o c.requires.0.within (omega arith)) r));
     }

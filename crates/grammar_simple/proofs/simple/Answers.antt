@@ -1,36 +1,23 @@
-use mathlib.Core.Path.{sym, subst, ◌∙◌}
-use Prim.Native.Nat.{◌+◌}
-use native.Mathlib.Omega.{arith}
-use Rattle.grammar_look.specs.Internal.{opening_inside}
-use Rattle.grammar_expression.proofs.Closing.{moved_later}
+use mathlib.Core.Path.{sym, ap, ◌∙◌}
+use Rattle.std.specs.Prelude.{Some}
 use Rattle.grammar_simple.proofs.Openings.{simple_set, simple_send, simple_goto, simple_none}
 use Rattle.grammar_simple.proofs.simple.Goals as goal
 
-pub returns-in-Set : goal.returns-in-Set
-returns-in-Set c =
-    let a = c.args in
-    let e = c.in-Set.is in
-    let h = subst (opening_inside _ _) e c.opening_at.ensures.inside in record {
-      moved = moved_later 1 1 a.n (a.at + 1) a.out (a.at + 2) (a.out + 1) c.assigned.result c.assigned.ensures.moved
-          (omega arith) (omega arith) (omega arith);
-      read = simple_set _ _ _ _ _ _ _ (sym c.opening_at.ensures.found ∙ e) h c.assigned.ensures.read;
-    }
+pub returns-in_err-w-clause-read : goal.returns-in_err-w-clause-read
+returns-in_err-w-clause-read c =
+    rw c.from_residual.ensures (simple_none _ _ (sym c.opening_at.ensures.found ∙ c.in_err-w.was))
 
-pub returns-in-Send : goal.returns-in-Send
-returns-in-Send c =
-    let a = c.args in
-    let e = c.in-Send.is in
-    let h = subst (opening_inside _ _) e c.opening_at.ensures.inside in record {
-      moved = moved_later 1 1 a.n (a.at + 1) a.out (a.at + 2) (a.out + 1) c.sent.result c.sent.ensures.moved
-          (omega arith) (omega arith) (omega arith);
-      read = simple_send _ _ _ _ _ _ (sym c.opening_at.ensures.found ∙ e) h c.sent.ensures.read;
-    }
+pub returns-in-Set-clause-read : goal.returns-in-Set-clause-read
+returns-in-Set-clause-read c =
+    simple_set c.args.tokens.now _ _ _ _ (sym c.opening_at.ensures.found ∙ c.in_ok-w.was ∙ ap Some c.in-Set.is)
+    c.in_ok-w.ensures.inside c.assigned.ensures.read
 
-pub returns-in-Goto : goal.returns-in-Goto
-returns-in-Goto c =
-    let e = c.in-Goto.is in
-    let h = subst (opening_inside _ _) e c.opening_at.ensures.inside in record { moved = (omega arith, omega (arith, h), omega arith, omega arith); read = simple_goto _ _ _ _ _ _ _ (sym c.opening_at.ensures.found ∙ e) h c.put.ensures }
+pub returns-in-Send-clause-read : goal.returns-in-Send-clause-read
+returns-in-Send-clause-read c =
+    simple_send c.args.tokens.now _ _ _ (sym c.opening_at.ensures.found ∙ c.in_ok-w.was ∙ ap Some c.in-Send.is)
+    c.in_ok-w.ensures.inside c.sent.ensures.read
 
-pub returns-in-Missing : goal.returns-in-Missing
-returns-in-Missing c =
-    record { moved = tt; read = simple_none _ _ (sym c.opening_at.ensures.found ∙ c.in-Missing.is) }
+pub returns-in-Goto-clause-read : goal.returns-in-Goto-clause-read
+returns-in-Goto-clause-read c =
+    simple_goto c.args.tokens.now _ _ _ _ (sym c.opening_at.ensures.found ∙ c.in_ok-w.was ∙ ap Some c.in-Goto.is)
+    c.in_ok-w.ensures.inside c.put.ensures
