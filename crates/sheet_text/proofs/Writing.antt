@@ -13,8 +13,7 @@ use Rattle.text.proofs.Writing.{put_all_append}
 use Rattle.sheet.specs.declared.Field.{Field}
 use Rattle.sheet.specs.Fields.{field_text}
 use Rattle.sheet_field.specs.Memory.{field_in, fields_at}
-use Rattle.sheet_line.specs.declared.Shown.{Shown}
-use Rattle.sheet_line.specs.declared.Shown.TheVariants.{As, Rest}
+use Rattle.std.specs.Prelude.{Option, Some, None}
 use Rattle.sheet_line.specs.Runs.{line_field, lined}
 use Rattle.sheet_text.specs.TextOfFields.{separator, fields_text, header_text, text_of_fields}
 use Rattle.sheet_line.specs.Answers.{before, shown}
@@ -33,8 +32,8 @@ header_length v is =
     omega (arith, fields)
 
 -- what is shown of a field, behind its separator: p, q and r are the places before both, between them and behind them
-pub put_shown_parts : (x : Shown) (w : ℕ) (f : Field) (b : ℕ) (p q r : Placed)
-    → x ≡ As w → f ≡ field_in w → b ≡ separator f → q ≡ put_byte b p → r ≡ put_all (field_text (field_in w)) q
+pub put_shown_parts : (x : Option ℕ) (w : ℕ) (f : Field) (b : ℕ) (p q r : Placed)
+    → x ≡ Some w → f ≡ field_in w → b ≡ separator f → q ≡ put_byte b p → r ≡ put_all (field_text (field_in w)) q
     → r ≡ put_all (shown_text x) p
 unfolding put_all
 put_shown_parts x w f b p q r is_shown is_field is_separator put_one put_other =
@@ -60,21 +59,21 @@ module _ (ws : List ℕ) (i : ℕ) where
   left_none h = ap (λ l. lined (before i ws) (map field_in l)) (drop_of_length-le ws h)
 
   -- what is shown of the field at a place, and what is left behind it
-  lines_more : (x : Shown) → i < length ws → shown x ≡ line_field (before i ws) (field_in (get_or ws i 0)) (fields_at (i + 1) ws)
+  lines_more : (x : Option ℕ) → i < length ws → shown x ≡ line_field (before i ws) (field_in (get_or ws i 0)) (fields_at (i + 1) ws)
       → lines_at i ws ≡ shown x ++ lines_at (i + 1) ws
   unfolding lined before
   lines_more x h e =
       ap (lined (before i ws)) (left_more h)
       ∙ ap₂ (λ a n. a ++ lined (before n ws) (fields_at (i + 1) ws)) (sym e) (sym (add-one i))
 
-  text_more : (x : Shown) → i < length ws → shown x ≡ line_field (before i ws) (field_in (get_or ws i 0)) (fields_at (i + 1) ws)
+  text_more : (x : Option ℕ) → i < length ws → shown x ≡ line_field (before i ws) (field_in (get_or ws i 0)) (fields_at (i + 1) ws)
       → fields_text (lines_at i ws) ≡ shown_text x ++ fields_text (lines_at (i + 1) ws)
   unfolding fields_text
-  text_more (As w) h e = ap fields_text (lines_more (As w) h e)
-  text_more Rest h e = ap fields_text (lines_more Rest h e)
+  text_more (Some w) h e = ap fields_text (lines_more (Some w) h e)
+  text_more None h e = ap fields_text (lines_more None h e)
 
   -- p and q are the places before and behind what is shown
-  pub put_turn : (x : Shown) (p q : Placed) → i < length ws → shown x ≡ line_field (before i ws) (field_in (get_or ws i 0)) (fields_at (i + 1) ws)
+  pub put_turn : (x : Option ℕ) (p q : Placed) → i < length ws → shown x ≡ line_field (before i ws) (field_in (get_or ws i 0)) (fields_at (i + 1) ws)
       → q ≡ put_all (shown_text x) p
       → put_all (fields_text (lines_at (i + 1) ws)) q ≡ put_all (fields_text (lines_at i ws)) p
   put_turn x p q h e put =
@@ -84,7 +83,7 @@ module _ (ws : List ℕ) (i : ℕ) where
   unfolding fields_text put_all
   put_over p h = rw (left_none h) refl
 
-  pub count_turn : (x : Shown) → i < length ws → shown x ≡ line_field (before i ws) (field_in (get_or ws i 0)) (fields_at (i + 1) ws)
+  pub count_turn : (x : Option ℕ) → i < length ws → shown x ≡ line_field (before i ws) (field_in (get_or ws i 0)) (fields_at (i + 1) ws)
       → length (fields_text (lines_at i ws)) ≡ length (shown_text x) + length (fields_text (lines_at (i + 1) ws))
   count_turn x h e = rw (text_more x h e) (length-append (shown_text x) (fields_text (lines_at (i + 1) ws)))
 

@@ -13,18 +13,11 @@ ghost use Rattle.sheet_text.specs.Answers.{written, Measured, reply_for};
 ghost use Rattle.sheet_text.specs.TextOfFields.{begins, separator, header_text, fields_text, text_of_fields};
 ghost use Rattle.sheet_text.specs.Internal.{front_table, front_lengths, shown_text};
 
-use base::{byte_at, part};
+use base::part;
 use sheet::Field;
 use sheet_field::field_in;
-use sheet_line::{Shown, shown_at};
+use sheet_line::shown_at;
 use text::write::{decimal_length, put_byte, put_decimal, put_fixed};
-
-// What became of a text: its length, or that the buffer is shorter than it.
-#[derive(Clone, Copy)]
-pub enum Written {
-    Whole(usize),
-    Short,
-}
 
 // What the text of a field begins with, by the fields' numbers in memory: six bytes each, a shorter one with spaces behind it.
 // From 23 on the number that the field carries stands behind it. The tables are lent by `write`, since a function that names one
@@ -45,28 +38,23 @@ fn put_numbered(buffer: &mut [u8], at: usize, string: &[u8], n: u32) -> usize
 }
 
 // The number of the kind of the field that a number stands for; that of ELSE where it stands for none.
+#[tactic(auto, using(crate::proofs::ByNumber::kind_told), unfolding(base::specs::Choice::pick))]
 fn kind_in(w: u64) -> usize
     ensures { result ≡ kind (field_in w) }
 {
     let k = w / 4294967296;
-    if k < 29 {
-        return k as usize;
-    }
-    0
+    if k < 29 { k as usize } else { 0 }
 }
 
 // The number that the field carries that a number stands for.
+#[tactic(auto, using(crate::proofs::ByNumber::carried_told), unfolding(base::specs::Choice::pick))]
 fn value_in(w: u64) -> u32
     ensures { result ≡ carried (field_in w) }
 {
-    let k = w / 4294967296;
-    if k < 23 {
-        return 0;
+    match w / 4294967296 {
+        23..=28 => (w % 4294967296) as u32,
+        _ => 0,
     }
-    if k < 29 {
-        return (w % 4294967296) as u32;
-    }
-    0
 }
 
 // The field that a number stands for.
@@ -78,7 +66,7 @@ fn put_field(buffer: &mut [u8], at: usize, w: u64, fronts: &[u8], lengths: &[u8]
     let i = put_fixed(
         buffer,
         at,
-        part(fronts, 6 * k, (byte_at(lengths, k) % 16) as usize),
+        part(fronts, 6 * k, (base::at(lengths, k, 0) % 16) as usize),
     );
     if k < 23 {
         return i;
@@ -90,32 +78,24 @@ fn put_field(buffer: &mut [u8], at: usize, w: u64, fronts: &[u8], lengths: &[u8]
 fn begins_line(f: Field) -> bool
     ensures { result ≡ begins f }
 {
-    match f {
-        Field::Else => true,
-        Field::Start => true,
-        Field::Finish => true,
-        Field::If => true,
-        Field::Send => true,
-        Field::Neg => false,
-        Field::Not => false,
-        Field::Binary(_) => false,
-        Field::Compare(_) => false,
-        Field::Word(_) => false,
-        Field::Constant(_) => false,
-        Field::Set(_) => true,
-        Field::Goto(_) => true,
-        Field::Run(_, _) => false,
-    }
+    matches!(
+        f,
+        Field::Else
+            | Field::Start
+            | Field::Finish
+            | Field::If
+            | Field::Send
+            | Field::Set(_)
+            | Field::Goto(_)
+    )
 }
 
 // The byte before a field: newline where it begins a line, else tab.
+#[tactic(auto, unfolding(base::specs::Choice::pick))]
 fn separator_of(f: Field) -> u8
     ensures { result ≡ separator f }
 {
-    if begins_line(f) {
-        return 10;
-    }
-    9
+    if begins_line(f) { b'\n' } else { b'\t' }
 }
 
 // The header without its newline: V and the number of instructions.
@@ -123,16 +103,22 @@ fn put_header(buffer: &mut [u8], at: usize, v: u32, instructions: u32) -> usize
     ensures { placed result buffer.new ≡ put_all (header_text v instructions) (placed at buffer.old) }
 {
     let i = put_numbered(buffer, at, b"SHEET\t", v);
-    let j = put_byte(buffer, i, 9);
+    let j = put_byte(buffer, i, b'\t');
     put_decimal(buffer, j, instructions)
 }
 
 // What is written of a field, behind its separator.
-fn put_shown(buffer: &mut [u8], at: usize, what: Shown, fronts: &[u8], lengths: &[u8]) -> usize
+fn put_shown(
+    buffer: &mut [u8],
+    at: usize,
+    what: Option<u64>,
+    fronts: &[u8],
+    lengths: &[u8],
+) -> usize
     requires { (fronts.now ≡ front_table) × (lengths.now ≡ front_lengths) }
     ensures { placed result buffer.new ≡ put_all (shown_text what) (placed at buffer.old) }
 {
-    let Shown::As(w) = what else {
+    let Some(w) = what else {
         return at;
     };
     let i = put_byte(buffer, at, separator_of(field_in(w)));
@@ -145,12 +131,10 @@ fn put_fields(buffer: &mut [u8], at: usize, fields: &[u64], fronts: &[u8], lengt
     ensures { placed result buffer.new ≡ put_all (fields_text (lined [] (fields_at 0 fields.now))) (placed at buffer.old) }
 {
     let mut j = at;
-    let mut i: usize = 0;
-    while i < fields.len() {
+    for i in 0..fields.len() {
         j = put_shown(buffer, j, shown_at(fields, i), fronts, lengths);
-        i += 1;
     }
-    put_byte(buffer, j, 10)
+    put_byte(buffer, j, b'\n')
 }
 
 // The length of the text of the field that a number stands for, with a bound by which a separator can be added.
@@ -160,7 +144,7 @@ fn field_length(w: u64, lengths: &[u8]) -> usize
     ensures few { result ≤ 16 }
 {
     let k = kind_in(w);
-    let front = (byte_at(lengths, k) % 16) as usize;
+    let front = (base::at(lengths, k, 0) % 16) as usize;
     if k < 23 {
         return front;
     }
@@ -168,50 +152,45 @@ fn field_length(w: u64, lengths: &[u8]) -> usize
 }
 
 // The length of what is written of a field, with its separator.
-fn shown_length(what: Shown, lengths: &[u8]) -> usize
+fn shown_length(what: Option<u64>, lengths: &[u8]) -> usize
     requires { lengths.now ≡ front_lengths }
     ensures { result ≡ length (shown_text what) }
 {
-    let Shown::As(w) = what else {
+    let Some(w) = what else {
         return 0;
     };
     field_length(w, lengths) + 1
 }
 
-// The length of the text that `write` writes, or that there is no room for it. What is left of the room is counted, so that no
-// sum of lengths can overflow.
-fn text_length(fields: &[u64], v: u32, instructions: u32, room: usize, lengths: &[u8]) -> Written
+// The length of the text that `write` writes, if there is room for it. What is left of the room is counted, so that no sum of lengths
+// can overflow.
+fn text_length(
+    fields: &[u64],
+    v: u32,
+    instructions: u32,
+    room: usize,
+    lengths: &[u8],
+) -> Option<usize>
     requires { lengths.now ≡ front_lengths }
     ensures { Measured room (length (text_of_fields v instructions (fields_at 0 fields.now))) result }
 {
     let header = decimal_length(v) + decimal_length(instructions) + 8;
-    if room < header {
-        return Written::Short;
+    let mut left = room.checked_sub(header)?;
+    for i in 0..fields.len() {
+        left = left.checked_sub(shown_length(shown_at(fields, i), lengths))?;
     }
-    let mut left = room - header;
-    let mut i: usize = 0;
-    while i < fields.len() {
-        let more = shown_length(shown_at(fields, i), lengths);
-        if left < more {
-            return Written::Short;
-        }
-        left -= more;
-        i += 1;
-    }
-    Written::Whole(room - left)
+    Some(room - left)
 }
 
-// Writes the text of V, a number of instructions and the fields that are lent. The room for all of it is tested first, so a buffer
-// that is too short keeps every byte.
-pub fn write(fields: &[u64], v: u32, instructions: u32, buffer: &mut [u8]) -> Written
+// Writes the text of V, a number of instructions and the fields that are lent, and tells its length; or none, where the buffer is
+// shorter. The room for all of it is tested first, so a buffer that is too short keeps every byte.
+pub fn write(fields: &[u64], v: u32, instructions: u32, buffer: &mut [u8]) -> Option<usize>
     ensures replied { written result ≡ reply_for (text_of_fields v instructions (fields_at 0 fields.now)) buffer.old }
     ensures filled { buffer.new ≡ filled_with (text_of_fields v instructions (fields_at 0 fields.now)) buffer.old }
 {
     let room = buffer.len();
-    let Written::Whole(total) = text_length(fields, v, instructions, room, &FRONT_LENGTHS) else {
-        return Written::Short;
-    };
+    let total = text_length(fields, v, instructions, room, &FRONT_LENGTHS)?;
     let at = put_header(buffer, 0, v, instructions);
     put_fields(buffer, at, fields, &FRONTS, &FRONT_LENGTHS);
-    Written::Whole(total)
+    Some(total)
 }

@@ -1,13 +1,15 @@
 -- Fields in memory, words compared, and the translation made again.
-use Prim.Native.Nat.{ℕ, zero, suc, ◌+◌, ◌≤◌, ◌<◌}
+use Prim.Native.Nat.{ℕ, ◌≤◌}
 use mathlib.Core.Path.{◌≡◌, refl, sym, ap, ap₂, ◌∙◌}
-use mathlib.Core.Bool.{Bool, true, false}
+use mathlib.Core.Bool.{Bool, true}
 use mathlib.Core.List.{List, [], ◌∷◌, ◌++◌, map}
 use native.Mathlib.Omega.{arith}
 use native.Mathlib.Nat.{zero-add}
-use native.Mathlib.Numerals.{add-one}
-use lib.ListN.{length, get_or, take, length-map}
-use lib.Seq.{take-suc, take_all}
+use lib.ListN.{length, take, length-map}
+use lib.Dec.{eqb}
+use Rattle.std.specs.List.{starts_with}
+use Rattle.std.proofs.lemmas.Slice.Eq.{slice_eq-Decides}
+use Rattle.std.proofs.lemmas.Bool.Decides.{Decides-eqb}
 use Rattle.base.proofs.Cases.{by_less}
 use Rattle.base.proofs.Lists.{take_sets}
 use Rattle.order.specs.Limits.{most_variables, most_orders}
@@ -25,9 +27,9 @@ use Rattle.sheet.specs.Within.{PartFormed}
 use Rattle.sheet_field.specs.Memory.{carried, field_word, field_in, fields_at, most_fields}
 use Rattle.sheet_field.proofs.Stored.{field_in_law}
 use Rattle.translate.specs.declared.Translated.{Translated}
-use Rattle.translate.specs.declared.Translated.TheVariants.{Whole, Over}
+use Rattle.translate.specs.declared.Translated.TheVariants.{Whole}
 use Rattle.translate.specs.Answers.{TranslatesTo, Translates}
-use Rattle.untranslate.specs.Internal.{Same, AgainOf}
+use Rattle.untranslate.specs.Internal.{AgainOf}
 
 -- ---- fields that are stored are read again
 
@@ -83,46 +85,6 @@ module _ (v n : ℕ) (few : v ≤ most_variables) (small : n ≤ most_fields) wh
       (stored_append (part_fields x) _ (stored_part x f.3)
       (stored_mark Else _ refl (stored_append (part_fields y) _ (stored_part y f.4) (stored_mark Finish _ refl (stored_part l f.5)))))))
 
--- ---- words compared
-
-get_d_take : (l : List ℕ) (n i d : ℕ) → i < n → get_or (take n l) i d ≡ get_or l i d
-get_d_take [] zero i d h = absurd (omega arith)
-get_d_take [] (suc n) i d h = refl
-get_d_take (x ∷ l) zero i d h = absurd (omega arith)
-get_d_take (x ∷ l) (suc n) zero d h = refl
-get_d_take (x ∷ l) (suc n) (suc i) d h = get_d_take l n i d (omega arith)
-
-module _ (front words : List ℕ) where
-  pub record Comparing (i : ℕ) : Type 0 where
-    pub so_far : take i front ≡ take i words
-    pub inside : i ≤ length words
-
-  pub same_none : Comparing 0
-  same_none = record { so_far = refl; inside = omega arith }
-
-  module _ (i : ℕ) (p : Comparing i) (room : length words ≤ length front) (h : i < length words) where
-    pub same_more : get_or front i 0 ≡ get_or words i 0 → Comparing (i + 1)
-    same_more e = record {
-      so_far =
-          rw (add-one i)
-          (take-suc front i 0 (omega arith) ∙ ap₂ (λ l x. l ++ x ∷ []) p.so_far e ∙ sym (take-suc words i 0 h));
-      inside = omega arith;
-    }
-
-    pub same_stops : (get_or front i 0 ≡ get_or words i 0 → ⊥) → Same front words false
-    same_stops no_same = record {
-      yes_so = λ e. let z : ◌≡◌ {A = ℕ} 0 1 = cc in absurd (omega arith);
-      no_so = λ e all. no_same (sym (get_d_take front (length words) i 0 h) ∙ ap (λ l. get_or l i 0) all);
-    }
-
-  pub same_ends : (i : ℕ) → Comparing i → length words ≤ i → Same front words true
-  same_ends i p h =
-      let all : i ≡ length words = omega (arith, p.inside) in
-      record {
-        yes_so = λ e. ap (λ k. take k front) (sym all) ∙ p.so_far ∙ take_all i words h;
-        no_so = λ e. let z : ◌≡◌ {A = ℕ} 0 1 = cc in absurd (omega arith);
-      }
-
 -- ---- the translation made again
 
 module _ (fs : List ℕ) (v t : ℕ) (os zeros : List ℕ) (long : length zeros ≡ most_orders) (r : Translated) (out : List ℕ) (made : Translates fs v zeros r out)
@@ -133,15 +95,6 @@ module _ (fs : List ℕ) (v t : ℕ) (os zeros : List ℕ) (long : length zeros 
   it : TranslatesTo v x zeros r out
   it = made.of x formed same few small long
 
-  -- no answer but yes where all agrees
-  refuses :
-      (length (translation (sheet v x)) ≤ most_orders → temporaries_of x ≡ t → map order_word (translation (sheet v x)) ≡ os → ⊥)
-      → AgainOf v x t os false
-  refuses g = record { yes_so = λ e. let z : ◌≡◌ {A = ℕ} 0 1 = cc in absurd (omega arith); no_so = λ e. g }
-
-  pub again_over : r ≡ Over → AgainOf v x t os false
-  again_over e = refuses (λ room used all. let both = (it.whole room).0 in let z : ◌≡◌ {A = ℕ} 0 1 = cc in absurd (omega arith))
-
   module _ (most n : ℕ) (e : r ≡ Whole most n) where
     told : length (translation (sheet v x)) ≤ most_orders → (most ≡ temporaries_of x) × (n ≡ length (translation (sheet v x)))
     told room =
@@ -149,17 +102,6 @@ module _ (fs : List ℕ) (v t : ℕ) (os zeros : List ℕ) (long : length zeros 
         let first : most ≡ temporaries_of x = cc in
         let second : n ≡ length (translation (sheet v x)) = cc in
         (first, second)
-
-    pub again_other_temporaries : (most ≡ t → ⊥) → AgainOf v x t os false
-    again_other_temporaries g = refuses (λ room used all. g ((told room).0 ∙ used))
-
-    pub again_other_count : (n ≡ length os → ⊥) → AgainOf v x t os false
-    again_other_count g = refuses (λ room used all. g ((told room).1 ∙ sym (length-map (translation (sheet v x)) order_word) ∙ ap length all))
-
-    pub again_longer : most_orders < length os → AgainOf v x t os false
-    again_longer g =
-        refuses (λ room used all. let n = sym (length-map (translation (sheet v x)) order_word) ∙ ap length all in
-        absurd (omega (arith, g, room, n)))
 
     front : (room : length (translation (sheet v x)) ≤ most_orders) → take (length (map order_word (translation (sheet v x)))) out ≡ map order_word (translation (sheet v x))
     front room =
@@ -173,13 +115,18 @@ module _ (fs : List ℕ) (v t : ℕ) (os zeros : List ℕ) (long : length zeros 
         (λ over. let both = it.over (λ room. omega arith) in let z : ◌≡◌ {A = ℕ} 0 1 = cc in absurd (omega arith))
         (λ room. room)
 
-    pub again_compared : most ≡ t → n ≡ length os → (b : Bool) → Same out os b → AgainOf v x t os b
-    again_compared used counted b s = record {
-      yes_so = λ yes_so.
-          let n = length-map (translation (sheet v x)) order_word in (
-            roomy,
-            sym (told roomy).0 ∙ used,
-            sym (front roomy) ∙ ap (λ k. take k out) (n ∙ sym (told roomy).1 ∙ counted) ∙ s.yes_so yes_so,
-          );
-      no_so = λ no_so room also all. s.no_so no_so (ap (λ l. take (length l) out) (sym all) ∙ front room ∙ all);
-    }
+    pub again_compared : most ≡ t → n ≡ length os → (b : Bool) → b ≡ starts_with eqb out os → AgainOf v x t os b
+    again_compared used counted b compared =
+        let same = slice_eq-Decides Decides-eqb os (take (length os) out) b compared in
+        record {
+          yes_so = λ yes.
+              let n = length-map (translation (sheet v x)) order_word in (
+                roomy,
+                sym (told roomy).0 ∙ used,
+                sym (front roomy) ∙ ap (λ k. take k out) (n ∙ sym (told roomy).1 ∙ counted) ∙ sym (same.0 yes),
+              );
+          no_so = λ no room also all.
+              let equal : b ≡ true = same.1 (sym (ap (λ l. take (length l) out) (sym all) ∙ front room ∙ all)) in
+              let z : ◌≡◌ {A = ℕ} 0 1 = cc in
+              absurd (omega arith);
+        }

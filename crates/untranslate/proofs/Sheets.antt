@@ -7,6 +7,7 @@ use native.Mathlib.Omega.{arith}
 use native.Mathlib.Nat.{zero-add}
 use lib.ListN.{length, take, length-append, length-map}
 use lib.Seq.{length-take-le}
+use Rattle.std.specs.Prelude.{Option, Some, None}
 use Rattle.base.proofs.Lists.{take_sets}
 use Rattle.order.specs.declared.Order.{Order}
 use Rattle.order.specs.declared.Order.TheVariants.{Stop}
@@ -23,13 +24,10 @@ use Rattle.sheet.proofs.Sizes.{code_length, count_size}
 use Rattle.sheet.proofs.ReadBack.{read_back_law, given_translates}
 use Rattle.sheet.proofs.GoodObject.{translation_good}
 use Rattle.sheet_field.specs.Memory.{field_word, field_in, fields_at, most_fields}
-use Rattle.sheet_check.specs.declared.Checked.{Checked}
-use Rattle.sheet_check.specs.declared.Checked.TheVariants.{Sheet as IsSheet, Missing as NoSheet}
 use Rattle.sheet_check.specs.Answers.{FieldsOf, Checks}
 use Rattle.untranslate_part.specs.Guess.{Guessed, Guessing}
 use Rattle.sheet.proofs.Lengths.{part_few}
 use Rattle.untranslate.specs.declared.Untranslated.{Untranslated}
-use Rattle.untranslate.specs.declared.Untranslated.TheVariants.{Sheet as Read, Missing}
 use Rattle.untranslate.specs.Internal.{Again}
 use Rattle.untranslate.specs.Answers.{Answers, Untranslates}
 use Rattle.untranslate.proofs.Again.{stored_part}
@@ -76,8 +74,8 @@ module _ (ws : List ℕ) (v t : ℕ) (fs : List ℕ) (n : ℕ) (after : List ℕ
 
     -- where none is found none is given
     nothing :
-        (r : Untranslated)
-        → r ≡ Missing
+        (r : Option Untranslated)
+        → r ≡ None
         → ((x : Part) → Within (sheet v x) → temporaries_of x ≡ t → translation (sheet v x) ≡ os → ⊥)
         → Answers (untranslate v t os) r after
     nothing r e g = by (untranslate v t os) refl
@@ -89,22 +87,22 @@ module _ (ws : List ℕ) (v t : ℕ) (fs : List ℕ) (n : ℕ) (after : List ℕ
             let same : u ≡ v = it.1 in
             absurd (g x (subst (λ k. Within (sheet k x)) same it.0) it.2 (ap (λ k. translation (sheet k x)) (sym same) ∙ it.3))
 
-    pub no_sheet : (c : Checked) → Checks (take n after) v c → c ≡ NoSheet → Answers (untranslate v t os) Missing after
-    no_sheet c checked e = nothing Missing refl (λ x w used all. checked.none e small good.variables x (of_fields x w used all))
+    pub no_sheet : (c : Option ℕ) → Checks (take n after) v c → c ≡ None → Answers (untranslate v t os) None after
+    no_sheet c checked e = nothing None refl (λ x w used all. checked.none e small good.variables x (of_fields x w used all))
 
-    pub no_translation : (b : Bool) → Again (take n after) v t ws b → b ≡ false → Answers (untranslate v t os) Missing after
+    pub no_translation : (b : Bool) → Again (take n after) v t ws b → b ≡ false → Answers (untranslate v t os) None after
     no_translation b again told =
-        nothing Missing refl
+        nothing None refl
         (λ x w used all. (again x w.formed (fields_are x w used all) good.variables small).no_so told w.few_orders used (ap (map order_word) all ∙ sym held))
 
     pub a_sheet :
-        (c : Checked) (k : ℕ)
+        (c : Option ℕ) (k : ℕ)
         → Checks (take n after) v c
-        → c ≡ IsSheet k
+        → c ≡ Some k
         → (b : Bool)
         → Again (take n after) v t ws b
         → b ≡ true
-        → Answers (untranslate v t os) (Read k n) after
+        → Answers (untranslate v t os) (Some (record { instructions = k; fields = n })) after
     a_sheet c k checked e b again so =
         let it = checked.found k e in
         let x = it.part in
@@ -113,7 +111,7 @@ module _ (ws : List ℕ) (v t : ℕ) (fs : List ℕ) (n : ℕ) (after : List ℕ
         answer x k it.counted are told.0 told.1 told.2
       where
         answer : (x : Part) (k : ℕ) → k ≡ count x → FieldsOf (take n after) v x → length (translation (sheet v x)) ≤ most_orders → temporaries_of x ≡ t
-            → map order_word (translation (sheet v x)) ≡ ws → Answers (untranslate v t os) (Read k n) after
+            → map order_word (translation (sheet v x)) ≡ ws → Answers (untranslate v t os) (Some (record { instructions = k; fields = n })) after
         answer x k counts are room used same =
             let within : Within (sheet v x) = record {
               formed = are.formed;
@@ -126,9 +124,9 @@ module _ (ws : List ℕ) (v t : ℕ) (fs : List ℕ) (n : ℕ) (after : List ℕ
             words_tell (translation (sheet v x)) os (good_narrow v (temporaries_of x) (translation (sheet v x)) (translation_good (sheet v x) within)) (good_narrow v t os good) (same ∙ held) in
             let back : untranslate v t os ≡ given (sheet v x) = ap₂ (untranslate v) (sym used) (sym all) ∙ read_back_law (sheet v x) within in
             let many : length (part_fields x) ≡ n = sym (ap length are.same) ∙ length-map (take n after) field_in ∙ front_length in
-            subst (λ q. Answers q (Read k n) after) (sym back)
-            (ap₂ Read counts (sym many), ap (λ j. fields_at 0 (take j after)) many ∙ are.same)
+            subst (λ q. Answers q (Some (record { instructions = k; fields = n })) after) (sym back)
+            (ap₂ (λ i j. Some (record { instructions = i; fields = j })) counts (sym many), ap (λ j. fields_at 0 (take j after)) many ∙ are.same)
 
-  pub untranslates : (r : Untranslated) → ((os : List Order) → Good v t os → ws ≡ map order_word os → length fs ≡ most_fields → Answers (untranslate v t os) r after)
+  pub untranslates : (r : Option Untranslated) → ((os : List Order) → Good v t os → ws ≡ map order_word os → length fs ≡ most_fields → Answers (untranslate v t os) r after)
       → Untranslates ws v t fs r after
   untranslates r g = record { kept = guessed.kept; of = g }

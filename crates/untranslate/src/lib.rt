@@ -3,67 +3,48 @@
 #![tactic(auto)]
 
 ghost use Rattle.std.specs.Prelude.{◌≤◌, ◌≡◌, length};
-ghost use Rattle.untranslate.specs.Internal.{Same, Again};
+ghost use Rattle.untranslate.specs.Internal.{Again};
 ghost use Rattle.untranslate.specs.Answers.{Untranslates};
 
 use order::MOST_ORDERS;
-use sheet_check::{Checked, check};
+use sheet_check::check;
 use translate::{Translated, translate};
 use untranslate_part::guess;
 
-// A sheet: how many instructions it has, and how many fields, which fill the front of the array. Or that there is none.
+// A sheet: how many instructions it has, and how many fields, which fill the front of the array.
 #[derive(Clone, Copy)]
-pub enum Untranslated {
-    Sheet(u32, usize),
-    Missing,
-}
-
-// Whether the first words of one array are those of another.
-fn same(front: &[u64], words: &[u64]) -> bool
-    requires { length words.now ≤ length front.now }
-    ensures { Same front.now words.now result }
-{
-    let mut i = 0;
-    while i < words.len() {
-        if front[i] != words[i] {
-            return false;
-        }
-        i += 1;
-    }
-    true
+pub struct Untranslated {
+    pub instructions: u32,
+    pub fields: usize,
 }
 
 // Whether the sheet with V variables that the fields are of translates to the orders, with T temporaries.
 fn translates(fields: &[u64], v: u32, t: u32, orders: &[u64]) -> bool
     ensures { Again fields.now v t orders.now result }
 {
-    let mut out = [0u64; MOST_ORDERS as usize];
+    let mut out = [0; MOST_ORDERS as usize];
     let Translated::Whole(most, n) = translate(fields, v, &mut out) else {
         return false;
     };
-    if most != t {
+    if most != t || n as usize != orders.len() {
         return false;
     }
-    if n as usize != orders.len() {
-        return false;
-    }
-    if out.len() < orders.len() {
-        return false;
-    }
-    same(&out, orders)
+    out.starts_with(orders)
 }
 
-// The sheet whose translation has V variables, T temporaries and the orders that are lent. Free is what the array holds behind its
-// fields, and all that it holds where there is none.
-pub fn untranslate(orders: &[u64], v: u32, t: u32, fields: &mut [u64]) -> Untranslated
+// The sheet whose translation has V variables, T temporaries and the orders that are lent, or none. Free is what the array holds behind
+// its fields, and all that it holds where there is none.
+pub fn untranslate(orders: &[u64], v: u32, t: u32, fields: &mut [u64]) -> Option<Untranslated>
     ensures { Untranslates orders.now v t fields.old result fields.new }
 {
     let n = guess(orders, v, fields);
-    let Checked::Sheet(instructions) = check(&fields[..n], v) else {
-        return Untranslated::Missing;
-    };
+    let instructions = check(&fields[..n], v)?;
     if translates(&fields[..n], v, t, orders) {
-        return Untranslated::Sheet(instructions, n);
+        Some(Untranslated {
+            instructions,
+            fields: n,
+        })
+    } else {
+        None
     }
-    Untranslated::Missing
 }

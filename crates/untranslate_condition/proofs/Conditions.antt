@@ -6,6 +6,7 @@ use mathlib.Core.List.{List, [], ◌∷◌, ◌++◌, map, append_assoc}
 use native.Mathlib.Omega.{arith}
 use lib.ListN.{length, set, take, length-append}
 use lib.Seq.{sets, set-set, length-take-le}
+use Rattle.std.specs.Prelude.{Some, None, unwrap_or}
 use Rattle.base.specs.Choice.{pick}
 use Rattle.word.specs.declared.Relation.{Relation}
 use Rattle.order.specs.declared.Order.{Order}
@@ -27,7 +28,6 @@ use Rattle.untranslate_expression.specs.declared.Spot.{Spot}
 use Rattle.untranslate_expression.specs.Internal.{orders_at, first_order, Put, Writes, Wrote, Reading}
 use Rattle.untranslate_expression.proofs.Places.{set_sets, writes_more, safe_more}
 use Rattle.untranslate_expression.proofs.Links.{comparison_chain}
-use Rattle.untranslate_condition.specs.declared.Lead.TheVariants.{To, Nowhere}
 use Rattle.untranslate_condition.specs.Internal.{lead_of, lead_at, member_end, FirstMember, goes_on_by, far_code, Compared, Trying}
 use Rattle.untranslate_condition.proofs.Places.{orders_length, orders_past, orders_before}
 use Rattle.untranslate_condition.proofs.Members.{one_member, run_member}
@@ -88,7 +88,7 @@ module _ (v : ℕ) where
 
 pub record Leads (os : List ℕ) (q d : ℕ) : Type 0 where
   pub asks : Relation
-  pub is : lead_at (q - 1) os ≡ To asks d
+  pub is : lead_at (q - 1) os ≡ Some (asks, d)
 
 pub branch_before :
     (os : List ℕ) (v p q : ℕ) (g : Bool) (d : ℕ) (c : Condition) (l : List Order)
@@ -122,7 +122,7 @@ module _ (os : List ℕ) (p : ℕ) (falls : Bool) (first : ℕ) (fs : List ℕ) 
       reading.whole v 0 (comparison_code v x y) (Else ∷ (expression_fields x ++ expression_fields y)) (Branch (leaving falls s) d ∷ []) start (omega arith)
       (comparison_chain v x y hx hy) stands refl (omega arith) fits
 
-  pub compared_none : Nowhere ≡ lead_at e.at os → Compared os p falls first fs n e.n m
+  pub compared_none : None ≡ lead_at e.at os → Compared os p falls first fs n e.n m
   compared_none none = record {
     safe = reading.safe;
     whole = λ v d s x y start few hx hy stands fits.
@@ -137,7 +137,7 @@ module _ (os : List ℕ) (p : ℕ) (falls : Bool) (first : ℕ) (fs : List ℕ) 
 
   pub compared_put :
       (r : Relation) (a : ℕ)
-      → To r a ≡ lead_at e.at os
+      → Some (r, a) ≡ lead_at e.at os
       → (t : Relation)
       → t ≡ leaving falls r
       → (u : ℕ) (after : List ℕ)
@@ -149,7 +149,7 @@ module _ (os : List ℕ) (p : ℕ) (falls : Bool) (first : ℕ) (fs : List ℕ) 
     whole = λ v d s x y start few hx hy stands fits.
         let w = comparison_read v d s x y start few hx hy stands fits in
         let told = known ∙ ap (λ k. lead_of (first_order k)) w.rest in
-        let left : r ≡ leaving falls s = cc in
+        let left : r ≡ leaving falls s = ap (λ x. (unwrap_or {T = Relation × ℕ} x (r, a)).0) told in
         let related : t ≡ s = its ∙ ap (leaving falls) left ∙ leaving_twice falls s in
         let one = put.writes (omega (arith, reading.safe.kept)) in
         record {
@@ -167,14 +167,6 @@ module _ (os : List ℕ) (p : ℕ) (falls : Bool) (first : ℕ) (fs : List ℕ) 
 all_tried : (os : List ℕ) (v p : ℕ) (g : Bool) (d : ℕ) (c : Condition) → orders_at p os ≡ far_code v p g d c → p + trying v c ≡ length os
 all_tried os v p g d c stands =
     omega (arith, orders_length p os, ap length stands, far_length v p g d c, trying_some v c)
-
-module _ (os : List ℕ) (p q : ℕ) (member : FirstMember os p q) where
-  -- both parts of a run are shorter than the run
-  pub first_shorter : q < length os → length (take q os) - p < length os - p
-  first_shorter h = omega (arith, length-take-le q os (omega arith), member.on, member.over (omega (arith, member.on)))
-
-  pub rest_shorter : q < length os → (length os - q < length os - p) × (0 < q)
-  rest_shorter h = (omega (arith, member.over (omega (arith, member.on))), omega (arith, member.over (omega (arith, member.on))))
 
 module _ (os : List ℕ) (p : ℕ) (falls : Bool) (first : ℕ) (fs : List ℕ) (n q : ℕ) (member : FirstMember os p q) where
   one_told :

@@ -1,5 +1,5 @@
 -- Where orders lead: by their numbers, in a loop over them, and in the orders of expressions and conditions.
-use Prim.Native.Nat.{ℕ, suc, ◌+◌, ◌-◌, ◌/◌, ◌%◌, ◌≤◌, ◌<◌}
+use Prim.Native.Nat.{ℕ, suc, ◌+◌, ◌-◌, ◌/◌, ◌%◌, ◌≤◌, ◌<◌, max}
 use mathlib.Core.Path.{◌≡◌, refl, sym, ap, ◌∙◌}
 use mathlib.Core.Bool.{Bool}
 use mathlib.Core.List.{List, [], ◌∷◌, ◌++◌, append_assoc}
@@ -8,6 +8,7 @@ use native.Mathlib.Numerals.{add-one}
 use borrow.Author.Tests.{lt-ltb, le-ltb, eq-eqb, ne_eqb}
 use lib.Dec.{ltb}
 use lib.ListN.{length, get_or}
+use Rattle.std.specs.Prelude.{Option, Some, None}
 use Rattle.base.specs.Choice.{pick}
 use Rattle.base.specs.Places.{each}
 use Rattle.base.proofs.Cases.{by_less}
@@ -28,15 +29,13 @@ use Rattle.sheet.proofs.CodeOrders.{OfExpression, comparison_orders}
 use Rattle.sheet.specs.Guess.{on_at}
 use Rattle.untranslate_expression.specs.Internal.{orders_at, first_order}
 use Rattle.untranslate_expression.proofs.Places.{orders_inside, none_outside}
-use Rattle.untranslate_condition.specs.declared.Lead.{Lead}
-use Rattle.untranslate_condition.specs.declared.Lead.TheVariants.{To, Nowhere}
 use Rattle.untranslate_condition.specs.Internal.{lead_of, lead_at, left_by, branches_end, PastBranches, far_code}
 
 -- ---- by numbers
 
 module _ (v : ℕ) where
-  abbrev lead_by : ℕ → Lead
-  lead_by k = pick (ltb k 5) Nowhere (pick (ltb k 11) (To (get_or relations (k - 5) AtLeast) v) Nowhere)
+  abbrev lead_by : ℕ → Option (Relation × ℕ)
+  lead_by k = pick (ltb k 5) None (pick (ltb k 11) (Some (get_or relations (k - 5) AtLeast, v)) None)
 
   all_lead : each (λ k. lead_of (order_of k v)) 0 38 ≡ each lead_by 0 38
   unfolding each order_of shapes pick
@@ -53,27 +52,24 @@ module _ (x : ℕ) where
   abbrev kind_of : ℕ
   kind_of = x / 4294967296
 
-  pub lead_low : kind_of < 5 → Nowhere ≡ lead_of (order_in x)
+  pub lead_low : kind_of < 5 → None ≡ lead_of (order_in x)
   unfolding pick
   lead_low h = sym (lead_told (x % 4294967296) kind_of ∙ rw (lt-ltb kind_of 5 h) refl)
 
-  pub lead_branch : 5 ≤ kind_of → kind_of < 11 → (r : Relation) → r ≡ get_or relations (kind_of - 5) AtLeast → To r (x % 4294967296) ≡ lead_of (order_in x)
+  pub lead_branch : 5 ≤ kind_of → kind_of < 11 → (r : Relation) → r ≡ get_or relations (kind_of - 5) AtLeast → Some (r, x % 4294967296) ≡ lead_of (order_in x)
   unfolding pick
   lead_branch h k r its = sym (lead_told (x % 4294967296) kind_of ∙ rw (le-ltb kind_of 5 h, lt-ltb kind_of 11 k, ← its) refl)
 
-  pub lead_high : 5 ≤ kind_of → 11 ≤ kind_of → Nowhere ≡ lead_of (order_in x)
+  pub lead_high : 5 ≤ kind_of → 11 ≤ kind_of → None ≡ lead_of (order_in x)
   unfolding pick
   lead_high h k = sym (lead_told (x % 4294967296) kind_of ∙ rw (le-ltb kind_of 5 h, le-ltb kind_of 11 k) refl)
 
 pub lead_inside_law : (at : ℕ) (os : List ℕ) → at < length os → lead_at at os ≡ lead_of (order_in (get_or os at 0))
 lead_inside_law at os h = ap (λ l. lead_of (first_order l)) (orders_inside at os h)
 
-pub lead_outside : (at : ℕ) (os : List ℕ) → length os ≤ at → lead_at at os ≡ Nowhere
-lead_outside at os h = ap (λ l. lead_of (first_order l)) (none_outside at os h)
-
 -- ---- branches counted: a turn of the loop, and its ends
 
-module _ (os : List ℕ) (at n k left : ℕ) (on : at ≤ k) (far : at ≤ length os → k ≤ length os)
+module _ (os : List ℕ) (at n k left : ℕ) (on : at ≤ k) (far : k ≤ max at (length os))
     (same : branches_end left k (orders_at k os) ≡ branches_end n at (orders_at at os)) where
   pub branch_counted :
       k < length os
@@ -89,17 +85,19 @@ module _ (os : List ℕ) (at n k left : ℕ) (on : at ≤ k) (far : at ≤ lengt
   unfolding branches_end pick
   branches_counted h none = record {
     on = on;
-    inside = far;
+    inside = λ g. omega (arith, h);
     is = sym (ap (branches_end left k) (orders_inside k os h) ∙ rw (eq-eqb left 0 none) refl) ∙ same;
   }
 
-  pub branches_ended : length os ≤ k → PastBranches os at n k
+  pub branches_ended : length os ≤ k → (r : ℕ) → r ≡ max at (length os) → PastBranches os at n r
   unfolding branches_end
-  branches_ended h = record { on = on; inside = far; is = sym (ap (branches_end left k) (none_outside k os h)) ∙ same }
+  branches_ended h r e =
+      let there : r ≡ k = omega (arith, e, on, far, h) in
+      record { on = omega (arith, e); inside = λ g. omega (arith, e, g); is = there ∙ sym (ap (branches_end left k) (none_outside k os h)) ∙ same }
 
 -- ---- the orders of an expression lead nowhere
 
-pub leads_nowhere : (v t : ℕ) (o : Order) → OfExpression v t o → lead_of o ≡ Nowhere
+pub leads_nowhere : (v t : ℕ) (o : Order) → OfExpression v t o → lead_of o ≡ None
 leads_nowhere v t (Word f w) h = refl
 leads_nowhere v t (Number f n) h = refl
 leads_nowhere v t (Store w) h = refl

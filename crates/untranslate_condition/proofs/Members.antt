@@ -1,5 +1,5 @@
 -- The first member of a run, told from orders: where the first condition of the run ends.
-use Prim.Native.Nat.{ℕ, ◌+◌, ◌≤◌, ◌<◌}
+use Prim.Native.Nat.{ℕ, ◌+◌, ◌≤◌, ◌<◌, max}
 use mathlib.Core.Path.{◌≡◌, refl, sym, ap, ◌∙◌}
 use mathlib.Core.Bool.{Bool, true, false, not}
 use mathlib.Core.List.{List, [], ◌∷◌, ◌++◌, append_assoc, append-nil}
@@ -7,6 +7,7 @@ use native.Mathlib.Omega.{arith}
 use borrow.Author.Tests.{le-leb, lt-leb, eq-eqb, ne_eqb}
 use lib.Dec.{leb}
 use lib.ListN.{length}
+use Rattle.std.specs.Prelude.{Option, Some, None}
 use Rattle.base.specs.Choice.{pick}
 use Rattle.word.specs.declared.Relation.{Relation}
 use Rattle.order.specs.declared.Order.{Order}
@@ -23,21 +24,17 @@ use Rattle.sheet.proofs.Sizes.{trying_some}
 use Rattle.sheet.proofs.Trees.{furthest_in, furthest_out, beyond, still, other_word, outside}
 use Rattle.untranslate_expression.specs.Internal.{orders_at}
 use Rattle.untranslate_expression.proofs.Places.{orders_inside, none_outside}
-use Rattle.untranslate_condition.specs.declared.Lead.{Lead}
-use Rattle.untranslate_condition.specs.declared.Lead.TheVariants.{To}
-use Rattle.untranslate_condition.specs.declared.Step.{Step}
-use Rattle.untranslate_condition.specs.declared.Step.TheVariants.{On, Ended as Over}
 use Rattle.untranslate_condition.specs.Internal.{lead_at, step_by, on_step, member_end, FirstMember, goes_on_by, far_code}
 use Rattle.untranslate_condition.proofs.Leads.{leads_nowhere}
 
 -- ---- one order
 
-module _ (e m k : ℕ) (r : Relation) (a : ℕ) (lead : Lead) (leads : To r a ≡ lead) (far : ℕ) (its : far ≡ furthest e m a) where
-  pub step_over : far ≤ k + 1 → Over ≡ step_by e m k lead
+module _ (e m k : ℕ) (r : Relation) (a : ℕ) (lead : Option (Relation × ℕ)) (leads : Some (r, a) ≡ lead) (far : ℕ) (its : far ≡ furthest e m a) where
+  pub step_over : far ≤ k + 1 → None ≡ step_by e m k lead
   unfolding pick
   step_over h = rw (← leads, ← its, le-leb far (k + 1) h) refl
 
-  pub step_on : k + 1 < far → On far ≡ step_by e m k lead
+  pub step_on : k + 1 < far → Some far ≡ step_by e m k lead
   unfolding pick
   step_on h = rw (← leads, ← its, lt-leb far (k + 1) h) refl
 
@@ -45,7 +42,7 @@ not_other : (b : Bool) → not b ≡ other b
 not_other true = refl
 not_other false = refl
 
-module _ (falls : Bool) (e : ℕ) (r : Relation) (a : ℕ) (lead : Lead) (leads : To r a ≡ lead) where
+module _ (falls : Bool) (e : ℕ) (r : Relation) (a : ℕ) (lead : Option (Relation × ℕ)) (leads : Some (r, a) ≡ lead) where
   pub goes_back : a ≡ e → not falls ≡ goes_on_by falls e lead
   unfolding pick
   goes_back h = rw (← leads, eq-eqb a e h) (not_other falls)
@@ -56,19 +53,19 @@ module _ (falls : Bool) (e : ℕ) (r : Relation) (a : ℕ) (lead : Lead) (leads 
 
 -- ---- a turn of the loop, and its ends
 
-module _ (os : List ℕ) (p k m : ℕ) (on : p ≤ k) (far : p ≤ length os → k ≤ length os)
+module _ (os : List ℕ) (p k m : ℕ) (on : p ≤ k) (far : k ≤ max p (length os))
     (same : member_end (length os) m k (orders_at k os) ≡ member_end (length os) 0 p (orders_at p os)) where
   turn : k < length os → member_end (length os) m k (orders_at k os)
       ≡ on_step (step_by (length os) m k (lead_at k os)) (k + 1) (λ i. member_end (length os) i (k + 1) (orders_at (k + 1) os))
   unfolding member_end
   turn h = rw (orders_inside k os h) refl
 
-  pub member_on : k < length os → (t : Step) → t ≡ step_by (length os) m k (lead_at k os) → (i : ℕ) → t ≡ On i
+  pub member_on : k < length os → (t : Option ℕ) → t ≡ step_by (length os) m k (lead_at k os) → (i : ℕ) → t ≡ Some i
       → member_end (length os) i (k + 1) (orders_at (k + 1) os) ≡ member_end (length os) 0 p (orders_at p os)
   member_on h t known i is =
       sym (turn h ∙ ap (λ u. on_step u (k + 1) (λ i. member_end (length os) i (k + 1) (orders_at (k + 1) os))) (sym known ∙ is)) ∙ same
 
-  pub member_over : k < length os → (t : Step) → t ≡ step_by (length os) m k (lead_at k os) → t ≡ Over → FirstMember os p (k + 1)
+  pub member_over : k < length os → (t : Option ℕ) → t ≡ step_by (length os) m k (lead_at k os) → t ≡ None → FirstMember os p (k + 1)
   member_over h t known is = record {
     on = omega arith;
     over = λ g. omega arith;
@@ -76,14 +73,16 @@ module _ (os : List ℕ) (p k m : ℕ) (on : p ≤ k) (far : p ≤ length os →
     is = sym (turn h ∙ ap (λ u. on_step u (k + 1) (λ i. member_end (length os) i (k + 1) (orders_at (k + 1) os))) (sym known ∙ is)) ∙ same;
   }
 
-  pub member_last : length os ≤ k → FirstMember os p k
+  pub member_last : length os ≤ k → (r : ℕ) → r ≡ max p (length os) → FirstMember os p r
   unfolding member_end
-  member_last h = record {
-    on = on;
-    over = λ g. omega arith;
-    inside = far;
-    is = sym (ap (member_end (length os) m k) (none_outside k os h)) ∙ same;
-  }
+  member_last h r e =
+      let there : r ≡ k = omega (arith, e, on, far, h) in
+      record {
+        on = omega (arith, e);
+        over = λ g. omega (arith, e, g);
+        inside = λ g. omega (arith, e, g);
+        is = there ∙ sym (ap (member_end (length os) m k) (none_outside k os h)) ∙ same;
+      }
 
 -- ---- the first member
 
@@ -105,7 +104,7 @@ module _ (v : ℕ) where
       → Expressed v y
       → p + (length (comparison_code v x y) + 1) ≡ n
       → member_end e m p ((comparison_code v x y ++ (Branch r d ∷ [])) ++ l)
-      ≡ on_step (pick (leb (furthest e m d) n) Over (On (furthest e m d))) n (λ i. member_end e i n l)
+      ≡ on_step (pick (leb (furthest e m d) n) None (Some (furthest e m d))) n (λ i. member_end e i n l)
   unfolding member_end
   tested e m p n x y r d l hx hy here_is =
       let cs = comparison_code v x y in

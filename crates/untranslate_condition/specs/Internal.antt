@@ -1,5 +1,5 @@
 -- What the functions do: `first_member`, `goes_on` and `tree` of sheet's specs/Guess.antt, told from orders.
-use Rattle.std.specs.Prelude.{ℕ, suc, ◌+◌, ◌-◌, ◌≤◌, ◌<◌, ◌≡◌, Bool, List, [], ◌∷◌, ◌++◌, leb, eqb, length}
+use Rattle.std.specs.Prelude.{ℕ, suc, ◌+◌, ◌-◌, ◌≤◌, ◌<◌, ◌≡◌, Bool, List, [], ◌∷◌, ◌++◌, Option, Some, None, leb, eqb, length}
 use Rattle.base.specs.Choice.{pick}
 use Rattle.word.specs.declared.Relation.{Relation}
 use Rattle.order.specs.declared.Order.{Order}
@@ -11,34 +11,30 @@ use Rattle.sheet.specs.Formed.{Expressed}
 use Rattle.sheet.specs.Condition.{Merged, AllExpressed, trying, leaving}
 use Rattle.sheet.specs.Guess.{furthest, on_at, alike, goes_on}
 use Rattle.untranslate_expression.specs.Internal.{orders_at, first_order, Writes, Safe}
-use Rattle.untranslate_condition.specs.declared.Lead.{Lead}
-use Rattle.untranslate_condition.specs.declared.Lead.TheVariants.{To, Nowhere}
-use Rattle.untranslate_condition.specs.declared.Step.{Step}
-use Rattle.untranslate_condition.specs.declared.Step.TheVariants.{On, Ended as Over}
 
 -- ---- branches
 
 -- what a branch asks for, and where it leads
-abbrev pub lead_of : Order → Lead
-lead_of (Word f w) = Nowhere
-lead_of (Number f n) = Nowhere
-lead_of (Store w) = Nowhere
-lead_of Neg = Nowhere
-lead_of Not = Nowhere
-lead_of (Jump a) = Nowhere
-lead_of (Skip a) = Nowhere
-lead_of (Branch r a) = To r a
-lead_of (Cond n) = Nowhere
-lead_of Send = Nowhere
-lead_of Stop = Nowhere
+abbrev pub lead_of : Order → Option (Relation × ℕ)
+lead_of (Word f w) = None
+lead_of (Number f n) = None
+lead_of (Store w) = None
+lead_of Neg = None
+lead_of Not = None
+lead_of (Jump a) = None
+lead_of (Skip a) = None
+lead_of (Branch r a) = Some (r, a)
+lead_of (Cond n) = None
+lead_of Send = None
+lead_of Stop = None
 
-abbrev pub lead_at : ℕ → List ℕ → Lead
+abbrev pub lead_at : ℕ → List ℕ → Option (Relation × ℕ)
 lead_at at os = lead_of (first_order (orders_at at os))
 
 -- how many of n branches are left behind an order
-abbrev pub left_by : ℕ → Lead → ℕ
-left_by n (To r a) = n - 1
-left_by n Nowhere = n
+abbrev pub left_by : ℕ → Option (Relation × ℕ) → ℕ
+left_by n (Some lead) = n - 1
+left_by n None = n
 
 -- the order behind n branches, among orders from order k on
 unfoldable pub branches_end : ℕ → ℕ → List Order → ℕ
@@ -53,13 +49,13 @@ pub record PastBranches (os : List ℕ) (at n r : ℕ) : Type 0 where
 -- ---- the first member of a run
 
 -- what becomes of the first member behind order k, where the orders end before order e and a branch led to order m at the furthest
-abbrev pub step_by : ℕ → ℕ → ℕ → Lead → Step
-step_by e m k (To r a) = pick (leb (furthest e m a) (k + 1)) Over (On (furthest e m a))
-step_by e m k Nowhere = On m
+abbrev pub step_by : ℕ → ℕ → ℕ → Option (Relation × ℕ) → Option ℕ
+step_by e m k (Some lead) = pick (leb (furthest e m lead.1) (k + 1)) None (Some (furthest e m lead.1))
+step_by e m k None = Some m
 
-abbrev pub on_step : Step → ℕ → (ℕ → ℕ) → ℕ
-on_step (On m) k more = more m
-on_step Over k more = k
+abbrev pub on_step : Option ℕ → ℕ → (ℕ → ℕ) → ℕ
+on_step (Some m) k more = more m
+on_step None k more = k
 
 -- the order behind the first member, among orders from order k on
 unfoldable pub member_end : ℕ → ℕ → ℕ → List Order → ℕ
@@ -73,9 +69,9 @@ pub record FirstMember (os : List ℕ) (p q : ℕ) : Type 0 where
   pub is : q ≡ member_end (length os) 0 p (orders_at p os)
 
 -- the answer at which the rest of a run is tried, by where its first member leads
-abbrev pub goes_on_by : Bool → ℕ → Lead → Bool
-goes_on_by falls e (To r a) = goes_on falls e a
-goes_on_by falls e Nowhere = falls
+abbrev pub goes_on_by : Bool → ℕ → Option (Relation × ℕ) → Bool
+goes_on_by falls e (Some lead) = goes_on falls e lead.1
+goes_on_by falls e None = falls
 
 -- ---- the orders of a condition, and its fields
 

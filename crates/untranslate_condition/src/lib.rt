@@ -10,143 +10,111 @@ ghost use Rattle.sheet.specs.Guess.{furthest, word_of};
 ghost use Rattle.untranslate_condition.specs.Internal.{lead_of, lead_at, left_by, step_by, goes_on_by};
 ghost use Rattle.untranslate_condition.specs.Internal.{PastBranches, FirstMember, Compared, Trying};
 
-use base::larger;
 use sheet::{Field, Joining};
 use sheet_field::{opposite_of, relation};
 use untranslate_expression::{put_field, read_expression};
 use word::Relation;
 
-// What a branch asks for, and where it leads; or that an order is no branch.
-#[derive(Clone, Copy)]
-pub enum Lead {
-    To(Relation, u32),
-    Nowhere,
-}
-
-// How the first member of a run goes on behind an order: it does, and a branch led to this order at the furthest; or it has ended.
-#[derive(Clone, Copy)]
-pub enum Step {
-    On(u32),
-    Ended,
-}
-
 // ---- branches
 
-// Where the order leads that a number stands for, by that number: branches have 5 to 10, in the order of relations.
-fn lead_of(x: u64) -> Lead
+// What a branch asks for, and where it leads; or none, where the order that a number stands for is no branch. It is told by that number:
+// branches have 5 to 10, in the order of relations.
+fn lead_of(x: u64) -> Option<(Relation, u32)>
     ensures { result ≡ lead_of (order_in x) }
 {
-    let k = x / 4294967296;
-    if k < 5 {
-        return Lead::Nowhere;
+    match x / 4294967296 {
+        k @ 5..=10 => Some((relation((k - 5) as u8), (x % 4294967296) as u32)),
+        _ => None,
     }
-    if k < 11 {
-        return Lead::To(relation((k - 5) as u8), (x % 4294967296) as u32);
-    }
-    Lead::Nowhere
 }
 
-pub fn lead_at(orders: &[u64], at: usize) -> Lead
+// The same of the order at a place; none where the array has ended.
+pub fn lead_at(orders: &[u64], at: usize) -> Option<(Relation, u32)>
     ensures { result ≡ lead_at at orders.now }
 {
     if at < orders.len() {
-        return lead_of(orders[at]);
+        lead_of(orders[at])
+    } else {
+        None
     }
-    Lead::Nowhere
-}
-
-// One less, but not below 0.
-pub fn less(n: u32) -> u32
-    ensures { result ≡ n - 1 }
-{
-    if n == 0 {
-        return 0;
-    }
-    n - 1
 }
 
 // How many of n branches are left behind an order.
 fn left_behind(x: u64, n: u32) -> u32
     ensures { result ≡ left_by n (lead_of (order_in x)) }
 {
-    let Lead::To(_, _) = lead_of(x) else {
-        return n;
-    };
-    less(n)
+    match lead_of(x) {
+        Some(_) => n.saturating_sub(1),
+        None => n,
+    }
 }
 
 // The order behind n branches from an order on, or the end of the orders where there are fewer.
 pub fn past_branches(orders: &[u64], at: usize, n: u32) -> usize
     ensures { PastBranches orders.now at n result }
 {
-    let mut k = at;
     let mut left = n;
-    while k < orders.len() {
+    for k in at..orders.len() {
         if left == 0 {
             return k;
         }
         left = left_behind(orders[k], left);
-        k += 1;
     }
-    k
+    at.max(orders.len())
 }
 
 // ---- the first member of a run
 
 // The furthest that a branch leads before order e: to order m, if not to order a.
+#[tactic(auto, unfolding(base::specs::Choice::pick))]
 fn further(e: usize, m: u32, a: u32) -> u32
     ensures { result ≡ furthest e m a }
 {
-    if (a as usize) < e {
-        return larger(m, a);
-    }
-    m
+    if (a as usize) < e { m.max(a) } else { m }
 }
 
-// A member ends with the first branch that no branch up to there leads beyond, other than out of all the orders.
-fn step_at(orders: &[u64], k: usize, m: u32) -> Step
+// A member ends with the first branch that no branch up to there leads beyond, other than out of all the orders. Behind order k the
+// member goes on, and a branch led to the order that is told at the furthest; or none is told, where it has ended.
+fn step_at(orders: &[u64], k: usize, m: u32) -> Option<u32>
     requires { k < length orders.now }
     ensures { result ≡ step_by (length orders.now) m k (lead_at k orders.now) }
 {
-    let Lead::To(_, a) = lead_at(orders, k) else {
-        return Step::On(m);
+    let Some((_, a)) = lead_at(orders, k) else {
+        return Some(m);
     };
     let far = further(orders.len(), m, a);
     if far as usize <= k + 1 {
-        return Step::Ended;
+        None
+    } else {
+        Some(far)
     }
-    Step::On(far)
 }
 
 // The order behind the first member of the run that the orders from p on try, or behind all of them where they are of one comparison.
 fn first_member(orders: &[u64], p: usize) -> usize
     ensures { FirstMember orders.now p result }
 {
-    let mut k = p;
     let mut m = 0;
-    while k < orders.len() {
-        let Step::On(far) = step_at(orders, k, m) else {
+    for k in p..orders.len() {
+        let Some(far) = step_at(orders, k, m) else {
             return k + 1;
         };
         m = far;
-        k += 1;
     }
-    k
+    p.max(orders.len())
 }
 
 // The answer at which the rest of a run is tried, by where its first member, which ends before order q, leads: the other answer of the
 // member is that of the run. Where this falls through, the member leads to the end.
+#[tactic(auto, unfolding(base::specs::Choice::pick))]
 fn goes_on(orders: &[u64], q: usize, falls: bool) -> bool
     requires { 0 < q }
     ensures { result ≡ goes_on_by falls (length orders.now) (lead_at (q - 1) orders.now) }
 {
-    let Lead::To(_, a) = lead_at(orders, q - 1) else {
-        return falls;
-    };
-    if a as usize == orders.len() {
-        return !falls;
+    match lead_at(orders, q - 1) {
+        Some((_, a)) if a as usize == orders.len() => !falls,
+        _ => falls,
     }
-    falls
 }
 
 // ---- the fields
@@ -155,20 +123,14 @@ fn goes_on(orders: &[u64], q: usize, falls: bool) -> bool
 fn word_of(on: bool) -> Joining
     ensures { result ≡ word_of on }
 {
-    if on {
-        return Joining::And;
-    }
-    Joining::Or
+    if on { Joining::And } else { Joining::Or }
 }
 
 // The relation of a comparison whose branch asks for s, where this answer falls through.
 fn related(falls: bool, s: Relation) -> Relation
     ensures { result ≡ leaving falls s }
 {
-    if falls {
-        return opposite_of(s);
-    }
-    s
+    if falls { opposite_of(s) } else { s }
 }
 
 // One comparison, whose fields are put at n: the branch behind it tells the relation.
@@ -183,7 +145,7 @@ fn read_comparison(
     ensures { Compared orders.now p falls first fields.old n result fields.new }
 {
     let s = read_expression(orders, p, first, first, fields, n);
-    let Lead::To(r, _) = lead_at(orders, s.at) else {
+    let Some((r, _)) = lead_at(orders, s.at) else {
         return s.n;
     };
     put_field(fields, n, Field::Compare(related(falls, r)));

@@ -12,28 +12,20 @@ use Rattle.sheet.specs.declared.Field.{Field}
 use Rattle.sheet.specs.Fields.{expression_fields}
 use Rattle.sheet.specs.Orders.{temporary, code}
 use Rattle.sheet_field.specs.Memory.{field_word}
+use Rattle.std.specs.Prelude.{Option, Some, None}
 use Rattle.untranslate_expression.specs.declared.Link.{Link}
-use Rattle.untranslate_expression.specs.declared.Link.TheVariants.{Unary, Plain, Kept, End}
+use Rattle.untranslate_expression.specs.declared.Link.TheVariants.{Unary, Plain, Kept}
 use Rattle.untranslate_expression.specs.declared.Spot.{Spot}
 use Rattle.untranslate_expression.specs.Internal.{orders_at, first_order, behind, use_of, leaf_of, operator_by, operator_of, link_of, past_link}
 use Rattle.untranslate_expression.specs.Internal.{Linkage, extend, extend_all, link_code, links_code, link_length, links_length, LinkGood, LinksGood, Chain}
 use Rattle.untranslate_expression.specs.Internal.{Past, Counts, Put, LeafPlace, Leaf, Wrote, Reading, At, Linking, Onwards}
-use Rattle.untranslate_expression.proofs.Places.{orders_behind, map_append, writes_before, safe_more}
+use Rattle.untranslate_expression.proofs.Places.{orders_behind, map_append, writes_before}
 use Rattle.untranslate_expression.proofs.Links.{seen, length_extend, length_all, links_some, expression_chain, closing, link_seen, link_past, closing_ends, link_told}
-
-pub leaf_read :
-    (os : List ℕ) (at : ℕ) (fs : List ℕ) (q n : ℕ) (after : List ℕ) (f : Field)
-    → f ≡ leaf_of (first_order (orders_at at os))
-    → Put f q fs n after
-    → (j : ℕ)
-    → Past os at j
-    → Leaf os at fs q (record { at = j; n = n }) after
-leaf_read os at fs q n after f its put j past = record { past = past; put = subst (λ g. Put g q fs n after) its put }
 
 -- ---- one link outwards
 
 module _ (os : List ℕ) (first t q : ℕ) (s : Spot) (fs : List ℕ) where
-  abbrev here : Link
+  abbrev here : Option Link
   here = link_of first t (orders_at s.at os)
 
   module _ (p : ℕ) (base : List ℕ) (v d : ℕ) (e : List Field) (l : List Order) (start : first ≡ v + 2) (free : t ≡ temporary v d) (low : p ≤ q) where
@@ -123,7 +115,7 @@ module _ (os : List ℕ) (first t q : ℕ) (s : Spot) (fs : List ℕ) where
 
   pub link_unary :
       (f : Field)
-      → Unary f ≡ here
+      → Some (Unary f) ≡ here
       → (u : ℕ) (after : List ℕ)
       → Put f q fs u after
       → Linking os first t q s fs (record { at = s.at + 1; n = s.n }) after
@@ -133,7 +125,7 @@ module _ (os : List ℕ) (first t q : ℕ) (s : Spot) (fs : List ℕ) where
     onwards = λ p base v d e l start free low at_s.
         let a = taken p base v d e l start free low at_s in
         let shows = sym (known ∙ a.is) in
-        let k = link_told v d a.k (Unary f) a.this shows in
+        let k = link_told v d a.k (Some (Unary f)) a.this shows in
         let ws = map field_word a.x in
         let room = fits p base v d e l start free low a in
         let same = same_room p base v d e l start free low a in
@@ -149,7 +141,7 @@ module _ (os : List ℕ) (first t q : ℕ) (s : Spot) (fs : List ℕ) where
 
   pub link_plain :
       (f g : Field)
-      → Plain f g ≡ here
+      → Some (Plain f g) ≡ here
       → (u : ℕ) (mid : List ℕ)
       → Put f q fs u mid
       → (r : ℕ) (after : List ℕ)
@@ -161,7 +153,7 @@ module _ (os : List ℕ) (first t q : ℕ) (s : Spot) (fs : List ℕ) where
     onwards = λ p base v d e l start free low at_s.
         let a = taken p base v d e l start free low at_s in
         let shows = sym (known ∙ a.is) in
-        let k = link_told v d a.k (Plain f g) a.this shows in
+        let k = link_told v d a.k (Some (Plain f g)) a.this shows in
         let ws = map field_word a.x in
         let more = length-append ws (field_word g ∷ []) in
         let room = fits p base v d e l start free low a in
@@ -186,7 +178,7 @@ module _ (os : List ℕ) (first t q : ℕ) (s : Spot) (fs : List ℕ) where
   two_behind c b r x y = y.rest ∙ ap behind x.rest
 
   pub link_kept :
-      Kept ≡ here
+      Some Kept ≡ here
       → s.at < length os
       → (kept : ℕ)
       → (t < 4294967295 → kept ≡ t + 1)
@@ -207,7 +199,7 @@ module _ (os : List ℕ) (first t q : ℕ) (s : Spot) (fs : List ℕ) where
     onwards = λ p base v d e l start free low at_s.
         let a = taken p base v d e l start free low at_s in
         let shows = sym (known ∙ a.is) in
-        let k = link_told v d a.k Kept a.this shows in
+        let k = link_told v d a.k (Some Kept) a.this shows in
         let right = expression_fields k.right in
         let ws = map field_word a.x in
         let us = map field_word right in
@@ -241,41 +233,14 @@ module _ (os : List ℕ) (first t q : ℕ) (s : Spot) (fs : List ℕ) where
 
   -- ---- no link: none was left
 
-  pub link_end : here ≡ End → Linking os first t q s fs s fs
+  pub link_end : here ≡ None → Linking os first t q s fs s fs
   link_end none = record {
     on = omega arith;
     safe = record { kept = refl; inside = λ h. h };
     onwards = λ p base v d e l start free low at_s.
         let a = taken p base v d e l start free low at_s in
-        absurd (link_told v d a.k End a.this (sym a.is ∙ none));
+        absurd (link_told v d a.k None a.this (sym a.is ∙ none));
   }
-
--- ---- the loop
-
-pub onwards_none : (os : List ℕ) (first t p q : ℕ) (s : Spot) (fs : List ℕ) → p ≤ q → Onwards os first t p q s fs q s fs
-onwards_none os first t p q s fs h = record {
-  low = h;
-  far = omega arith;
-  safe = record { kept = refl; inside = λ g. g };
-  onwards = λ base v d e l start free a. a;
-}
-
-pub onwards_more :
-    (os : List ℕ) (first t p q₀ : ℕ) (s₀ : Spot) (fs₀ : List ℕ) (q : ℕ) (s : Spot) (fs : List ℕ)
-    → Onwards os first t p q₀ s₀ fs₀ q s fs
-    → p < q
-    → (r : Spot) (after : List ℕ)
-    → Linking os first t (q - 1) s fs r after
-    → Onwards os first t p q₀ s₀ fs₀ (q - 1) r after
-onwards_more os first t p q₀ s₀ fs₀ q s fs so h r after link = record {
-  low = omega arith;
-  far = omega (arith, so.far, link.on);
-  safe = safe_more so.safe link.safe;
-  onwards = λ base v d e l start free a.
-      let back : q - 1 + 1 ≡ q = omega arith in
-      link.onwards p base v d e l start free (omega arith)
-      (subst (λ n. At os t p base v d e l n s fs) (sym back) (so.onwards base v d e l start free a));
-}
 
 -- ---- the start and the end
 
@@ -301,7 +266,7 @@ module _ (os : List ℕ) (at first t : ℕ) (fs : List ℕ) (p j links q₀ : �
       → t ≡ temporary v d
       → Chain v d c e
       → orders_at at os ≡ c ++ l
-      → link_of first t l ≡ End
+      → link_of first t l ≡ None
       → t + (length os - at) ≤ 4294967295
       → p + length e ≤ length fs
       → At os t p fs v d e l q₀ s₀ m₀

@@ -20,9 +20,10 @@ use Rattle.sheet.specs.Fields.{expression_fields}
 use Rattle.sheet.specs.Orders.{operation, temporary, joined, code, comparison_code}
 use Rattle.sheet.specs.Guess.{by_operation}
 use Rattle.sheet.specs.Formed.{Expressed}
+use Rattle.std.specs.Prelude.{Option, Some, None}
 use Rattle.untranslate_expression.specs.declared.Use.TheVariants.{Joins}
 use Rattle.untranslate_expression.specs.declared.Link.{Link}
-use Rattle.untranslate_expression.specs.declared.Link.TheVariants.{Unary, Plain, Kept, End}
+use Rattle.untranslate_expression.specs.declared.Link.TheVariants.{Unary, Plain, Kept}
 use Rattle.untranslate_expression.specs.Internal.{first_order, behind, use_of, loads_leaf, past_load, joined_by, operator_by, link_of, past_link}
 use Rattle.untranslate_expression.specs.Internal.{Linkage, negating, inverting, joining, comparing, extend, extend_all, link_code, links_code, link_length, links_length}
 use Rattle.untranslate_expression.specs.Internal.{LinkGood, LinksGood, Chain}
@@ -184,16 +185,16 @@ module _ (v t : ℕ) (used : v + 2 ≤ t) where
 
 -- ---- what the orders show of a link
 
-abbrev seen_right : Field → Expression → Link
-seen_right f (word w) = Plain f (WordField w)
-seen_right f (constant n) = Plain f (Constant n)
-seen_right f (negated e) = Kept
-seen_right f (inverted e) = Kept
-seen_right f (binary q a b) = Kept
+abbrev seen_right : Field → Expression → Option Link
+seen_right f (word w) = Some (Plain f (WordField w))
+seen_right f (constant n) = Some (Plain f (Constant n))
+seen_right f (negated e) = Some Kept
+seen_right f (inverted e) = Some Kept
+seen_right f (binary q a b) = Some Kept
 
-abbrev pub seen : Linkage → Link
-seen negating = Unary NegField
-seen inverting = Unary NotField
+abbrev pub seen : Linkage → Option Link
+seen negating = Some (Unary NegField)
+seen inverting = Some (Unary NotField)
 seen (joining o r) = seen_right (Binary o) r
 seen (comparing r) = seen_right Else r
 
@@ -202,7 +203,7 @@ module _ (v d first t : ℕ) (start : first ≡ v + 2) (free : t ≡ temporary v
       (r : Expression)
       → Expressed v r
       → (c m : List Order)
-      → link_of first t (((Store (temporary v d) ∷ code v (suc d) r) ++ c) ++ m) ≡ Kept
+      → link_of first t (((Store (temporary v d) ∷ code v (suc d) r) ++ c) ++ m) ≡ Some Kept
   unfolding pick
   kept_seen r h c m =
       rw (
@@ -215,7 +216,7 @@ module _ (v d first t : ℕ) (start : first ≡ v + 2) (free : t ≡ temporary v
   -- an operation whose field is g
   right_seen :
       (f : Operation) (g : Field)
-      → ((x : Field) → joined_by x (use_of f) ≡ Plain g x)
+      → ((x : Field) → joined_by x (use_of f) ≡ (Some (Plain g x)))
       → (r : Expression)
       → Expressed v r
       → (m : List Order)
@@ -233,7 +234,7 @@ module _ (v d first t : ℕ) (start : first ≡ v + 2) (free : t ≡ temporary v
   link_seen (comparing r) h m = right_seen Cmp Else (λ x. refl) r h m
 
   -- behind a right operand that was worked out there is no link
-  pub closing_ends : (m : List Order) → link_of first (t + 1) (Store (temporary v (suc d)) ∷ Word Load (temporary v d) ∷ m) ≡ End
+  pub closing_ends : (m : List Order) → link_of first (t + 1) (Store (temporary v (suc d)) ∷ Word Load (temporary v d) ∷ m) ≡ None
   unfolding pick
   closing_ends m =
       let more : temporary v (suc d) ≡ t + 1 = omega arith in
@@ -246,7 +247,7 @@ module _ (v d first t : ℕ) (start : first ≡ v + 2) (free : t ≡ temporary v
       (f : Operation) (r : Expression)
       → Expressed v r
       → (m : List Order)
-      → past_link t Kept (((Store (temporary v d) ∷ code v (suc d) r) ++ closing f v d) ++ m) ≡ m
+      → past_link t (Some Kept) (((Store (temporary v d) ∷ code v (suc d) r) ++ closing f v d) ++ m) ≡ m
   unfolding past_load pick
   kept_past f r h m =
       let found : past_load t (closing f v d ++ m) ≡ Word f (temporary v (suc d)) ∷ m = rw (eq-eqb (temporary v d) t (sym free)) refl in
@@ -290,11 +291,11 @@ pub record KeptLink (v d : ℕ) (k : Linkage) : Type 0 where
   pub adds : (x : List Field) → extend x k ≡ operator_by (use_of does) ∷ (x ++ expression_fields right)
   pub codes : link_code v d k ≡ (Store (temporary v d) ∷ code v (suc d) right) ++ closing does v d
 
-abbrev pub Adds : ℕ → ℕ → Linkage → Link → Type 0
-Adds v d k (Unary f) = UnaryLink k f
-Adds v d k (Plain f g) = PlainLink k f g
-Adds v d k Kept = KeptLink v d k
-Adds v d k End = ⊥
+abbrev pub Adds : ℕ → ℕ → Linkage → Option Link → Type 0
+Adds v d k (Some (Unary f)) = UnaryLink k f
+Adds v d k (Some (Plain f g)) = PlainLink k f g
+Adds v d k (Some Kept) = KeptLink v d k
+Adds v d k None = ⊥
 
 module _ (v d : ℕ) where
   right_adds :
@@ -324,5 +325,5 @@ module _ (v d : ℕ) where
       right_adds (operation o) (Binary o) (sym (ap operator_by (use_operation o))) r h (joining o r) refl (λ x. refl) refl
   link_adds (comparing r) h = right_adds Cmp Else refl r h (comparing r) refl (λ x. refl) refl
 
-  pub link_told : (k : Linkage) (q : Link) → LinkGood v k → seen k ≡ q → Adds v d k q
+  pub link_told : (k : Linkage) (q : Option Link) → LinkGood v k → seen k ≡ q → Adds v d k q
   link_told k q h e = subst (Adds v d k) e (link_adds k h)

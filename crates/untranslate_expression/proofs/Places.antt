@@ -1,5 +1,5 @@
 -- Orders by their places, and fields put one behind the other.
-use Prim.Native.Nat.{ℕ, zero, suc, ◌+◌, ◌/◌, ◌%◌, ◌≤◌, ◌<◌}
+use Prim.Native.Nat.{ℕ, zero, suc, ◌+◌, ◌/◌, ◌%◌, ◌≤◌, ◌<◌, max}
 use mathlib.Core.Path.{◌≡◌, refl, sym, ap, ◌∙◌}
 use mathlib.Core.Bool.{Bool, true, false}
 use mathlib.Core.List.{List, [], ◌∷◌, ◌++◌, map}
@@ -21,7 +21,8 @@ use Rattle.order.specs.Memory.{shapes, order_of, order_in}
 use Rattle.order.proofs.Numbers.{no_order}
 use Rattle.sheet.specs.declared.Field.{Field}
 use Rattle.sheet_field.specs.Memory.{field_word}
-use Rattle.untranslate_expression.specs.declared.Link.TheVariants.{Kept, End}
+use Rattle.std.specs.Prelude.{Some, None}
+use Rattle.untranslate_expression.specs.declared.Link.TheVariants.{Kept}
 use Rattle.untranslate_expression.specs.Internal.{orders_at, first_order, behind, loads, is_single, past_load, loads_leaf, link_by, link_of}
 use Rattle.untranslate_expression.specs.Internal.{Past, PastWord, Writes, Safe}
 
@@ -51,14 +52,6 @@ none_outside (suc at) (w ∷ os) h = none_outside at os (omega arith)
 module _ (os : List ℕ) (at : ℕ) where
   pub past_inside : at < length os → Past os at (at + 1)
   past_inside h = record { on = omega arith; over = λ g. omega arith; inside = λ g. omega arith; rest = orders_behind at os }
-
-  pub past_outside : length os ≤ at → Past os at at
-  past_outside h = record {
-    on = omega arith;
-    over = λ g. absurd (omega arith);
-    inside = λ g. g;
-    rest = let none = none_outside at os h in none ∙ sym (ap behind none);
-  }
 
 -- ---- whether an order is LOAD of a word, by its number
 
@@ -134,36 +127,36 @@ module _ (os : List ℕ) (at t j : ℕ) (on : at ≤ j) (same : past_load t (ord
   word_later h no_it =
       sym (ap (past_load t) (orders_inside j os h) ∙ ap (λ b. pick b (orders_at (j + 1) os) (past_load t (orders_at (j + 1) os))) no_it) ∙ same
 
-  pub word_never : length os ≤ j → (at ≤ length os → j ≤ length os) → PastWord os at t j
+  pub word_never : length os ≤ j → (r : ℕ) → r ≡ max at (length os) → PastWord os at t r
   unfolding past_load
-  word_never h g = record {
-    on = on;
-    inside = g;
-    rest = let none = none_outside j os h in none ∙ sym (ap (past_load t) none) ∙ same;
+  word_never h r e = record {
+    on = omega (arith, e);
+    inside = λ g. omega (arith, e, g);
+    rest = none_outside r os (omega (arith, e)) ∙ sym (ap (past_load t) (none_outside j os h)) ∙ same;
   }
 
 -- ---- STR of a temporary
 
 module _ (os : List ℕ) (at first t w : ℕ) (here : Store w ≡ first_order (orders_at at os)) where
-  pub store_other : (w ≡ t → ⊥) → End ≡ link_of first t (orders_at at os)
+  pub store_other : (w ≡ t → ⊥) → None ≡ link_of first t (orders_at at os)
   unfolding pick
   store_other h = rw (← here, ne_eqb w t h) refl
 
   module _ (same : w ≡ t) (q : Order) (behind_it : q ≡ first_order (orders_at (at + 1) os)) where
-    stored : link_of first t (orders_at at os) ≡ pick (loads_leaf first q) Kept End
+    stored : link_of first t (orders_at at os) ≡ pick (loads_leaf first q) (Some Kept) None
     unfolding pick
     stored =
         ap (λ o. link_by first t o (first_order (behind (orders_at at os)))) (sym here)
-        ∙ ap (λ b. pick b (pick (loads_leaf first (first_order (behind (orders_at at os)))) Kept End) End) (eq-eqb w t same)
-        ∙ ap (λ o. pick (loads_leaf first o) Kept End) (sym (behind_it ∙ ap first_order (orders_behind at os)))
+        ∙ ap (λ b. pick b (pick (loads_leaf first (first_order (behind (orders_at at os)))) (Some Kept) None) None) (eq-eqb w t same)
+        ∙ ap (λ o. pick (loads_leaf first o) (Some Kept) None) (sym (behind_it ∙ ap first_order (orders_behind at os)))
 
-    pub store_kept : (b : Bool) → b ≡ loads_leaf first q → b ≡ true → Kept ≡ link_of first t (orders_at at os)
+    pub store_kept : (b : Bool) → b ≡ loads_leaf first q → b ≡ true → Some Kept ≡ link_of first t (orders_at at os)
     unfolding pick
-    store_kept b known yes_it = sym (stored ∙ ap (λ k. pick k Kept End) (sym known ∙ yes_it))
+    store_kept b known yes_it = sym (stored ∙ ap (λ k. pick k (Some Kept) None) (sym known ∙ yes_it))
 
-    pub store_end : (b : Bool) → b ≡ loads_leaf first q → b ≡ false → End ≡ link_of first t (orders_at at os)
+    pub store_end : (b : Bool) → b ≡ loads_leaf first q → b ≡ false → None ≡ link_of first t (orders_at at os)
     unfolding pick
-    store_end b known no_it = sym (stored ∙ ap (λ k. pick k Kept End) (sym known ∙ no_it))
+    store_end b known no_it = sym (stored ∙ ap (λ k. pick k (Some Kept) None) (sym known ∙ no_it))
 
 -- ---- fields
 

@@ -1,5 +1,5 @@
 -- What the functions do. An expression's orders are those of its leftmost operand, its leaf, and of the links from there outwards.
-use Rattle.std.specs.Prelude.{ℕ, suc, ◌+◌, ◌-◌, ◌≤◌, ◌<◌, ◌≡◌, Bool, true, false, List, [], ◌∷◌, ◌++◌, map, ltb, eqb, length, drop}
+use Rattle.std.specs.Prelude.{ℕ, suc, ◌+◌, ◌-◌, ◌≤◌, ◌<◌, ◌≡◌, Bool, true, false, List, [], ◌∷◌, ◌++◌, map, Option, Some, None, ltb, eqb, length, drop}
 use Rattle.std.proofs.lemmas.List.Edits.{sets}
 use Rattle.base.specs.Choice.{pick}
 use Rattle.order.specs.declared.Operation.{Operation}
@@ -19,7 +19,7 @@ use Rattle.sheet_field.specs.Memory.{field_word}
 use Rattle.untranslate_expression.specs.declared.Use.{Use}
 use Rattle.untranslate_expression.specs.declared.Use.TheVariants.{Loads, Joins, Compares}
 use Rattle.untranslate_expression.specs.declared.Link.{Link}
-use Rattle.untranslate_expression.specs.declared.Link.TheVariants.{Unary, Plain, Kept, End}
+use Rattle.untranslate_expression.specs.declared.Link.TheVariants.{Unary, Plain, Kept}
 use Rattle.untranslate_expression.specs.declared.Spot.{Spot}
 
 -- ---- orders
@@ -88,10 +88,10 @@ past_load t (o ∷ l) = pick (loads t o) l (past_load t l)
 -- ---- links
 
 -- an operation on a plain operand
-abbrev pub joined_by : Field → Use → Link
-joined_by x Loads = End
-joined_by x (Joins o) = Plain (Binary o) x
-joined_by x Compares = Plain Else x
+abbrev pub joined_by : Field → Use → Option Link
+joined_by x Loads = None
+joined_by x (Joins o) = Some (Plain (Binary o) x)
+joined_by x Compares = Some (Plain Else x)
 
 abbrev pub operator_by : Use → Field
 operator_by Loads = Else
@@ -112,20 +112,20 @@ operator_of Send = Else
 operator_of Stop = Else
 
 -- the order o, with q behind it, as a link; t is the word of the first temporary that is not in use
-abbrev pub link_by : ℕ → ℕ → Order → Order → Link
+abbrev pub link_by : ℕ → ℕ → Order → Order → Option Link
 link_by first t (Word f w) q = joined_by (WordField w) (use_of f)
 link_by first t (Number f n) q = joined_by (Constant n) (use_of f)
-link_by first t (Store w) q = pick (eqb w t) (pick (loads_leaf first q) Kept End) End
-link_by first t Neg q = Unary NegField
-link_by first t Not q = Unary NotField
-link_by first t (Jump a) q = End
-link_by first t (Skip a) q = End
-link_by first t (Branch r a) q = End
-link_by first t (Cond n) q = End
-link_by first t Send q = End
-link_by first t Stop q = End
+link_by first t (Store w) q = pick (eqb w t) (pick (loads_leaf first q) (Some Kept) None) None
+link_by first t Neg q = Some (Unary NegField)
+link_by first t Not q = Some (Unary NotField)
+link_by first t (Jump a) q = None
+link_by first t (Skip a) q = None
+link_by first t (Branch r a) q = None
+link_by first t (Cond n) q = None
+link_by first t Send q = None
+link_by first t Stop q = None
 
-abbrev pub link_of : ℕ → ℕ → List Order → Link
+abbrev pub link_of : ℕ → ℕ → List Order → Option Link
 link_of first t l = link_by first t (first_order l) (first_order (behind l))
 
 -- an order that is a link by itself, whatever is behind it
@@ -148,11 +148,11 @@ is_single Send = false
 is_single Stop = false
 
 -- what is behind a link that the orders l begin with
-abbrev pub past_link : ℕ → Link → List Order → List Order
-past_link t (Unary f) l = behind l
-past_link t (Plain f x) l = behind l
-past_link t Kept l = behind (past_load t (behind l))
-past_link t End l = l
+abbrev pub past_link : ℕ → Option Link → List Order → List Order
+past_link t (Some (Unary f)) l = behind l
+past_link t (Some (Plain f x)) l = behind l
+past_link t (Some Kept) l = behind (past_load t (behind l))
+past_link t None l = l
 
 -- what a link adds to an expression
 pub data Linkage : Type 0 where
@@ -224,8 +224,8 @@ pub record PastWord (os : List ℕ) (at word r : ℕ) : Type 0 where
   pub rest : orders_at r os ≡ past_load word (orders_at at os)
 
 pub record PastLink (os : List ℕ) (at first t r : ℕ) : Type 0 where
-  pub none : r ≤ at → link_of first t (orders_at at os) ≡ End
-  pub some : at < r → link_of first t (orders_at at os) ≡ End → ⊥
+  pub none : r ≤ at → link_of first t (orders_at at os) ≡ None
+  pub some : at < r → link_of first t (orders_at at os) ≡ None → ⊥
   pub inside : at < r → r ≤ length os
   pub rest : orders_at r os ≡ past_link t (link_of first t (orders_at at os)) (orders_at at os)
 
@@ -236,7 +236,7 @@ pub record Counts (os : List ℕ) (at first t r : ℕ) : Type 0 where
       → first ≡ v + 2
       → t ≡ temporary v d
       → LinksGood v ks
-      → link_of first t l ≡ End
+      → link_of first t l ≡ None
       → orders_at at os ≡ links_code v d ks ++ l
       → r ≡ length ks
 
@@ -255,12 +255,9 @@ pub record Counting (os : List ℕ) (at first t j n : ℕ) : Type 0 where
       → first ≡ v + 2
       → t ≡ temporary v d
       → LinksGood v ks
-      → link_of first t l ≡ End
+      → link_of first t l ≡ None
       → orders_at at os ≡ links_code v d ks ++ l
       → Left os j n v d l (length ks)
-
-abbrev pub NextWord : ℕ → ℕ → Type 0
-NextWord w r = w < 4294967295 → r ≡ w + 1
 
 -- ---- fields put
 
@@ -305,7 +302,7 @@ pub record Reading (os : List ℕ) (at first t : ℕ) (fs : List ℕ) (p : ℕ) 
       → t ≡ temporary v d
       → Chain v d c e
       → orders_at at os ≡ c ++ l
-      → link_of first t l ≡ End
+      → link_of first t l ≡ None
       → t + (length os - at) ≤ 4294967295
       → p + length e ≤ length fs
       → Wrote os e l p fs r after

@@ -7,7 +7,7 @@
 ghost use Rattle.std.specs.Prelude.{◌≡◌, ◌<◌, length};
 ghost use Rattle.order.specs.Memory.{order_in};
 ghost use Rattle.untranslate_expression.specs.Internal.{orders_at, first_order, use_of, leaf_of, loads_leaf, loads, is_single, operator_of, joined_by, link_of};
-ghost use Rattle.untranslate_expression.specs.Internal.{Past, PastWord, PastLink, Counts, NextWord, LeafPlace, Put, Leaf, Reading, Linking};
+ghost use Rattle.untranslate_expression.specs.Internal.{Past, PastWord, PastLink, Counts, LeafPlace, Put, Leaf, Reading, Linking};
 
 use order::{Operation, Order};
 use order_number::order_in;
@@ -22,14 +22,13 @@ pub enum Use {
     Compares,
 }
 
-// A link: an operator without a right operand; one with a plain right operand; one whose right operand is worked out now; or no link. CMP
-// is an operator with the field ELSE, which the caller replaces.
+// A link: an operator without a right operand; one with a plain right operand; or one whose right operand is worked out now. CMP is an
+// operator with the field ELSE, which the caller replaces.
 #[derive(Clone, Copy)]
 pub enum Link {
     Unary(Field),
     Plain(Field, Field),
     Kept,
-    End,
 }
 
 // A place among the orders, and one among the fields.
@@ -63,19 +62,17 @@ pub fn order_at(orders: &[u64], at: usize) -> Order
     ensures { result ≡ first_order (orders_at at orders.now) }
 {
     if at < orders.len() {
-        return order_in(orders[at]);
+        order_in(orders[at])
+    } else {
+        Order::Stop
     }
-    Order::Stop
 }
 
 // The place behind, where the array has not ended.
 pub fn past(orders: &[u64], at: usize) -> usize
     ensures { Past orders.now at result }
 {
-    if at < orders.len() {
-        return at + 1;
-    }
-    at
+    if at < orders.len() { at + 1 } else { at }
 }
 
 // The field of the operand of an order that has one.
@@ -85,15 +82,7 @@ fn leaf_of(o: Order) -> Field
     match o {
         Order::Word(_, w) => Field::Word(w),
         Order::Number(_, n) => Field::Constant(n),
-        Order::Store(_) => Field::Else,
-        Order::Neg => Field::Else,
-        Order::Not => Field::Else,
-        Order::Jump(_) => Field::Else,
-        Order::Skip(_) => Field::Else,
-        Order::Branch(_, _) => Field::Else,
-        Order::Cond(_) => Field::Else,
-        Order::Send => Field::Else,
-        Order::Stop => Field::Else,
+        _ => Field::Else,
     }
 }
 
@@ -104,15 +93,7 @@ fn loads_leaf(o: Order, first: u32) -> bool
     match o {
         Order::Word(_, w) => w < first,
         Order::Number(_, _) => true,
-        Order::Store(_) => false,
-        Order::Neg => false,
-        Order::Not => false,
-        Order::Jump(_) => false,
-        Order::Skip(_) => false,
-        Order::Branch(_, _) => false,
-        Order::Cond(_) => false,
-        Order::Send => false,
-        Order::Stop => false,
+        _ => false,
     }
 }
 
@@ -127,42 +108,31 @@ fn loads_word(x: u64, word: u32) -> bool
 }
 
 // An operation on a plain operand as a link.
-fn joined_by(f: Operation, x: Field) -> Link
+fn joined_by(f: Operation, x: Field) -> Option<Link>
     ensures { result ≡ joined_by x (use_of f) }
 {
     match use_of(f) {
-        Use::Loads => Link::End,
-        Use::Joins(o) => Link::Plain(Field::Binary(o), x),
-        Use::Compares => Link::Plain(Field::Else, x),
+        Use::Loads => None,
+        Use::Joins(o) => Some(Link::Plain(Field::Binary(o), x)),
+        Use::Compares => Some(Link::Plain(Field::Else, x)),
     }
 }
 
 // The link at a place; `word` is that of the first temporary that is not in use. STR of it keeps the left operand exactly where the
 // order behind loads a variable or a constant.
-fn link_at(orders: &[u64], at: usize, first: u32, word: u32) -> Link
+fn link_at(orders: &[u64], at: usize, first: u32, word: u32) -> Option<Link>
     requires { at < length orders.now }
     ensures { result ≡ link_of first word (orders_at at orders.now) }
 {
     match order_at(orders, at) {
         Order::Word(f, w) => joined_by(f, Field::Word(w)),
         Order::Number(f, n) => joined_by(f, Field::Constant(n)),
-        Order::Store(w) => {
-            if w != word {
-                return Link::End;
-            }
-            if loads_leaf(order_at(orders, at + 1), first) {
-                return Link::Kept;
-            }
-            Link::End
+        Order::Store(w) if w == word && loads_leaf(order_at(orders, at + 1), first) => {
+            Some(Link::Kept)
         }
-        Order::Neg => Link::Unary(Field::Neg),
-        Order::Not => Link::Unary(Field::Not),
-        Order::Jump(_) => Link::End,
-        Order::Skip(_) => Link::End,
-        Order::Branch(_, _) => Link::End,
-        Order::Cond(_) => Link::End,
-        Order::Send => Link::End,
-        Order::Stop => Link::End,
+        Order::Neg => Some(Link::Unary(Field::Neg)),
+        Order::Not => Some(Link::Unary(Field::Not)),
+        _ => None,
     }
 }
 
@@ -172,52 +142,31 @@ fn operator_of(o: Order) -> Field
 {
     match o {
         Order::Word(f, _) => match use_of(f) {
-            Use::Loads => Field::Else,
             Use::Joins(o) => Field::Binary(o),
-            Use::Compares => Field::Else,
+            Use::Loads | Use::Compares => Field::Else,
         },
-        Order::Number(_, _) => Field::Else,
-        Order::Store(_) => Field::Else,
-        Order::Neg => Field::Else,
-        Order::Not => Field::Else,
-        Order::Jump(_) => Field::Else,
-        Order::Skip(_) => Field::Else,
-        Order::Branch(_, _) => Field::Else,
-        Order::Cond(_) => Field::Else,
-        Order::Send => Field::Else,
-        Order::Stop => Field::Else,
+        _ => Field::Else,
     }
 }
 
 // Whether the order that a number stands for is a link by itself: NEG, NOT, and an operation on a word or a number that is not LOAD.
+#[tactic(auto, using(crate::proofs::Places::single_told), unfolding(base::specs::Choice::pick))]
 fn is_single(x: u64) -> bool
     ensures { result ≡ is_single (order_in x) }
 {
-    let k = x / 4294967296;
-    if k < 4 {
-        return 2 <= k;
-    }
-    if k < 13 {
-        return false;
-    }
-    if k == 24 {
-        return false;
-    }
-    k < 36
+    matches!(x / 4294967296, 2 | 3 | 13..=23 | 25..=35)
 }
 
 // The place behind the first LOAD of a word.
 fn past_word(orders: &[u64], at: usize, word: u32) -> usize
     ensures { PastWord orders.now at word result }
 {
-    let mut j = at;
-    while j < orders.len() {
+    for j in at..orders.len() {
         if loads_word(orders[j], word) {
             return j + 1;
         }
-        j += 1;
     }
-    j
+    at.max(orders.len())
 }
 
 // The place behind the link at a place, or that place where there is none. A right operand that is worked out never loads the
@@ -233,10 +182,9 @@ fn past_link(orders: &[u64], at: usize, first: u32, word: u32) -> usize
         return at + 1;
     }
     match link_at(orders, at, first, word) {
-        Link::Unary(_) => at + 1,
-        Link::Plain(_, _) => at + 1,
-        Link::Kept => past(orders, past_word(orders, at + 1, word)),
-        Link::End => at,
+        Some(Link::Unary(_) | Link::Plain(_, _)) => at + 1,
+        Some(Link::Kept) => past(orders, past_word(orders, at + 1, word)),
+        None => at,
     }
 }
 
@@ -256,15 +204,6 @@ fn count_links(orders: &[u64], at: usize, first: u32, word: u32) -> usize
     }
 }
 
-fn next(w: u32) -> u32
-    ensures { NextWord w result }
-{
-    if w < 4294967295 {
-        return w + 1;
-    }
-    w
-}
-
 // Puts a field where there is room.
 pub fn put_field(fields: &mut [u64], n: usize, f: Field) -> usize
     ensures { Put f n fields.old result fields.new }
@@ -280,13 +219,7 @@ pub fn put_field(fields: &mut [u64], n: usize, f: Field) -> usize
 fn leaf_place(room: usize, p: usize, k: usize) -> usize
     ensures { LeafPlace room p k result }
 {
-    if room <= p {
-        return p;
-    }
-    if room - p <= k {
-        return p;
-    }
-    p + k
+    if k < room.saturating_sub(p) { p + k } else { p }
 }
 
 fn read_leaf(orders: &[u64], at: usize, fields: &mut [u64], q: usize) -> Spot
@@ -312,10 +245,9 @@ pub fn read_expression(
     ensures { Reading orders.now at first word fields.old p result fields.new }
 {
     let links = count_links(orders, past(orders, at), first, word);
-    let mut q = leaf_place(fields.len(), p, links);
-    let mut s = read_leaf(orders, at, fields, q);
-    while p < q {
-        q -= 1;
+    let leaf = leaf_place(fields.len(), p, links);
+    let mut s = read_leaf(orders, at, fields, leaf);
+    for q in (p..leaf).rev() {
         s = read_link(orders, first, word, fields, q, s);
     }
     s
@@ -326,12 +258,14 @@ pub fn read_expression(
 fn read_link(orders: &[u64], first: u32, word: u32, fields: &mut [u64], q: usize, s: Spot) -> Spot
     ensures { Linking orders.now first word q s fields.old result fields.new }
 {
-    let at = s.at;
-    let n = s.n;
+    let Spot { at, n } = s;
     if orders.len() <= at {
         return s;
     }
-    match link_at(orders, at, first, word) {
+    let Some(link) = link_at(orders, at, first, word) else {
+        return s;
+    };
+    match link {
         Link::Unary(f) => {
             put_field(fields, q, f);
             Spot { at: at + 1, n }
@@ -342,7 +276,7 @@ fn read_link(orders: &[u64], first: u32, word: u32, fields: &mut [u64], q: usize
             Spot { at: at + 1, n: m }
         }
         Link::Kept => {
-            let r = read_expression(orders, at + 1, first, next(word), fields, n);
+            let r = read_expression(orders, at + 1, first, word.saturating_add(1), fields, n);
             let c = past(orders, past(orders, r.at));
             put_field(fields, q, operator_of(order_at(orders, c)));
             Spot {
@@ -350,6 +284,5 @@ fn read_link(orders: &[u64], first: u32, word: u32, fields: &mut [u64], q: usize
                 n: r.n,
             }
         }
-        Link::End => s,
     }
 }

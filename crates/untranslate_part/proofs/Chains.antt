@@ -7,6 +7,7 @@ use native.Mathlib.Omega.{arith}
 use borrow.Author.Tests.{lt-ltb, ne_eqb}
 use lib.ListN.{length, get_or, set}
 use lib.Seq.{sets, set-set}
+use Rattle.std.specs.Prelude.{Option, Some, None}
 use Rattle.base.specs.Choice.{pick}
 use Rattle.base.proofs.Cases.{by_less}
 use Rattle.word.specs.declared.Relation.{Relation}
@@ -22,7 +23,6 @@ use Rattle.sheet.specs.Orders.{joined, code, simple_code, comparison_code, oppos
 use Rattle.sheet.specs.Formed.{Expressed, SimpleFormed}
 use Rattle.sheet.specs.Condition.{comparisons, AllExpressed, ConditionFormed, try_code, asking, asking_code}
 use Rattle.sheet_field.specs.Memory.{field_word}
-use Rattle.untranslate_expression.specs.declared.Link.TheVariants.{End}
 use Rattle.untranslate_expression.specs.declared.Spot.{Spot}
 use Rattle.untranslate_expression.specs.Internal.{orders_at, first_order, behind, loads_leaf, link_of, Past, Put, Writes, Wrote, Reading}
 use Rattle.untranslate_expression.proofs.Places.{none_outside, set_sets, writes_before}
@@ -31,7 +31,7 @@ use Rattle.sheet.proofs.Trees.{opposite_twice}
 use Rattle.untranslate_part.specs.declared.Role.{Role}
 use Rattle.untranslate_part.specs.declared.Role.TheVariants.{Inside, Last, Goto, Branch as Branches, Cond as Conds, Skip as Skips, Stop as Stops}
 use Rattle.untranslate_part.specs.declared.Begun.{Begun}
-use Rattle.untranslate_part.specs.declared.Begun.TheVariants.{Whole, Asked, Missing}
+use Rattle.untranslate_part.specs.declared.Begun.TheVariants.{Whole, Asked}
 use Rattle.untranslate_part.specs.Internal.{role_of, role_at, IfPut, Further, Gives, Chained, Joined, Known, Beginning}
 
 -- ---- roles
@@ -46,6 +46,15 @@ Untold (Conds n) = Unit {0}
 Untold (Skips a) = Unit {0}
 Untold Stops = Unit {0}
 
+pub untold : (q : Role) → ((f : Field) → q ≡ Last f → ⊥) → ((r : Relation) (a : ℕ) → q ≡ Branches r a → ⊥) → Untold q
+untold Inside h k = tt
+untold (Last f) h k = h f refl
+untold (Goto a) h k = tt
+untold (Branches r a) h k = k r a refl
+untold (Conds n) h k = tt
+untold (Skips a) h k = tt
+untold Stops h k = tt
+
 -- no instruction begins with such an order
 abbrev pub Unbegun : Role → Type 0
 Unbegun Inside = ⊥
@@ -56,13 +65,19 @@ Unbegun (Conds n) = ⊥
 Unbegun (Skips a) = Unit {0}
 Unbegun Stops = Unit {0}
 
+pub unbegun : (q : Role) → (q ≡ Inside → ⊥) → ((a : ℕ) → q ≡ Goto a → ⊥) → ((n : ℕ) → q ≡ Conds n → ⊥) → Unbegun q
+unbegun Inside h k j = h refl
+unbegun (Last f) h k j = tt
+unbegun (Goto a) h k j = k a refl
+unbegun (Branches r a) h k j = tt
+unbegun (Conds n) h k j = j n refl
+unbegun (Skips a) h k j = tt
+unbegun Stops h k j = tt
+
 -- an order that is not STOP stands inside the array
 role_inside : (first at : ℕ) (os : List ℕ) (q : Role) → q ≡ role_at first at os → (q ≡ Stops → ⊥) → at < length os
 role_inside first at os q known some =
     by_less at (length os) (λ h. h) (λ h. absurd (some (known ∙ ap (λ l. role_of first (first_order l)) (none_outside at os h))))
-
-pub cond_inside : (first at : ℕ) (os : List ℕ) (n : ℕ) → Conds n ≡ role_at first at os → at < length os
-cond_inside first at os n known = role_inside first at os (Conds n) known (λ z. let no : ◌≡◌ {A = ℕ} 0 1 = cc in omega arith)
 
 leaf_role : (first t : ℕ) (o : Order) → loads_leaf t o ≡ true → role_of first o ≡ Inside
 leaf_role first t (Word f w) e = refl
@@ -109,23 +124,6 @@ asking_role first v p (joins w x y) d h m = refl
 
 -- ---- the head of an IF, before its comparison's fields
 
-pub head_put :
-    (s : Relation) (n : ℕ) (fs : List ℕ) (u : ℕ) (mid : List ℕ)
-    → Put If n fs u mid
-    → (t : Relation)
-    → t ≡ opposite s
-    → (w : ℕ) (after : List ℕ)
-    → Put (Compare t) u mid w after
-    → IfPut s n fs after
-head_put s n fs u mid one t its w after two = record {
-  kept = two.safe.kept ∙ one.safe.kept;
-  fields = λ h.
-      let a = one.writes (omega arith) in
-      let next : u ≡ suc n = a.place ∙ omega arith in
-      let b = two.writes (omega (arith, next, one.safe.kept)) in
-      b.fields ∙ ap₂ (λ m i. set m i (field_word (Compare t))) a.fields next ∙ ap (λ r. set (set fs n (field_word If)) (suc n) (field_word (Compare r))) its;
-}
-
 head_written : (ws fs : List ℕ) (n i c z : ℕ) → sets (sets fs (n + 1) (z ∷ ws)) n (i ∷ c ∷ []) ≡ sets fs n (i ∷ c ∷ ws)
 head_written ws fs n i c z =
     ap (λ m. set m (suc n) c) (writes_before (z ∷ ws) fs n i)
@@ -141,7 +139,7 @@ module _ (os : List ℕ) (first : ℕ) (s : Spot) (fs : List ℕ) (e : Spot) (m 
       → first ≡ v + 2
       → first + length os ≤ 4294967295
       → Expressed v x
-      → link_of first first (o ∷ l) ≡ End
+      → link_of first first (o ∷ l) ≡ None
       → orders_at s.at os ≡ code v 0 x ++ (o ∷ l)
       → s.n + suc (length (expression_fields x)) ≤ length fs
       → Wrote os (expression_fields x) (o ∷ l) (s.n + 1) fs e m
@@ -181,7 +179,7 @@ module _ (os : List ℕ) (first : ℕ) (s : Spot) (fs : List ℕ) (e : Spot) (m 
       → Put f s.n m u after
       → (g : ℕ)
       → Past os e.at g
-      → Chained os first s fs (Whole (record { at = g; n = e.n })) after
+      → Chained os first s fs (Some (Whole (record { at = g; n = e.n }))) after
   chained_last f known u after put g past = record {
     kept = put.safe.kept ∙ reading.safe.kept;
     whole = λ r is.
@@ -221,7 +219,7 @@ module _ (os : List ℕ) (first : ℕ) (s : Spot) (fs : List ℕ) (e : Spot) (m 
       → IfPut t s.n m after
       → (g : ℕ)
       → Past os e.at g
-      → Chained os first s fs (Asked (record { at = g; n = e.n }) a) after
+      → Chained os first s fs (Some (Asked (record { at = g; n = e.n }) a)) after
   unfolding condition_fields
   chained_asks t a known after put g past = record {
     kept = put.kept ∙ reading.safe.kept;
@@ -242,7 +240,7 @@ module _ (os : List ℕ) (first : ℕ) (s : Spot) (fs : List ℕ) (e : Spot) (m 
         let related : opposite t ≡ r = ap opposite turned ∙ opposite_twice r in
         record {
           spot = record { at = g; n = e.n };
-          is = ap (λ k. Asked (record { at = g; n = e.n }) k) there;
+          is = ap (λ k. Some (Asked (record { at = g; n = e.n }) k)) there;
           wrote = record {
             rest = past.rest ∙ ap behind w.rest;
             writes = record {
@@ -257,7 +255,7 @@ module _ (os : List ℕ) (first : ℕ) (s : Spot) (fs : List ℕ) (e : Spot) (m 
   }
 
   -- any other order
-  pub chained_missing : (q : Role) → q ≡ role → Untold q → Chained os first s fs Missing m
+  pub chained_missing : (q : Role) → q ≡ role → Untold q → Chained os first s fs None m
   chained_missing q known untold = record {
     kept = reading.safe.kept;
     whole = λ r is. let z : ◌≡◌ {A = ℕ} 0 1 = cc in absurd (omega arith);
@@ -276,7 +274,7 @@ module _ (os table : List ℕ) (first : ℕ) (s : Spot) (fs : List ℕ) where
   abbrev here : Role
   here = role_at first s.at os
 
-  abbrev Simply : Begun → List ℕ → Type 0
+  abbrev Simply : Option Begun → List ℕ → Type 0
   Simply b after =
       (v m : ℕ) (to : ℕ → ℕ) (u : Simple) (l : List Order)
       → Known os table first v m to
@@ -285,7 +283,7 @@ module _ (os table : List ℕ) (first : ℕ) (s : Spot) (fs : List ℕ) where
       → s.n + length (simple_fields u) ≤ length fs
       → Gives (λ r. Whole r) b os (simple_fields u) l s.n fs after
 
-  abbrev Asking : Begun → List ℕ → Type 0
+  abbrev Asking : Option Begun → List ℕ → Type 0
   Asking b after =
       (v m : ℕ) (to : ℕ → ℕ) (c : Condition) (d : ℕ) (l : List Order)
       → Known os table first v m to
@@ -304,21 +302,7 @@ module _ (os table : List ℕ) (first : ℕ) (s : Spot) (fs : List ℕ) where
   if_role : (v : ℕ) (c : Condition) (d : ℕ) (l : List Order) → ConditionFormed v c → orders_at s.at os ≡ asking_code v s.at c d ++ l → here ≡ asked_by c
   if_role v c d l formed stands = ap (λ k. role_of first (first_order k)) stands ∙ asking_role first v s.at c d formed l
 
-  pub begin_full : length fs ≤ s.n → Beginning os table first s fs Missing fs
-  begin_full h = record {
-    kept = refl;
-    whole = λ r is. let z : ◌≡◌ {A = ℕ} 0 1 = cc in absurd (omega arith);
-    asked = λ r a is. let z : ◌≡◌ {A = ℕ} 0 1 = cc in absurd (omega arith);
-    simple = none;
-    asks = λ v m to c d l known formed stands far fits. absurd (omega arith);
-  }
-    where
-      none : Simply Missing fs
-      none v m to (setting w e) l known formed stands fits = absurd (omega arith)
-      none v m to (send e) l known formed stands fits = absurd (omega arith)
-      none v m to (goto a) l known formed stands fits = absurd (omega arith)
-
-  pub begin_chain : Inside ≡ here → (b : Begun) (after : List ℕ) → Chained os first s fs b after → Beginning os table first s fs b after
+  pub begin_chain : Inside ≡ here → (b : Option Begun) (after : List ℕ) → Chained os first s fs b after → Beginning os table first s fs b after
   unfolding pick asking_code try_code AllExpressed
   begin_chain inside b after chained = record {
     kept = chained.kept;
@@ -354,7 +338,7 @@ module _ (os table : List ℕ) (first : ℕ) (s : Spot) (fs : List ℕ) where
       → Put (GotoField k) s.n fs n after
       → (g : ℕ)
       → Past os s.at g
-      → Beginning os table first s fs (Whole (record { at = g; n = n })) after
+      → Beginning os table first s fs (Some (Whole (record { at = g; n = n }))) after
   begin_goto a jumps k its n after put g past = record {
     kept = put.safe.kept;
     whole = λ r is.
@@ -369,13 +353,13 @@ module _ (os table : List ℕ) (first : ℕ) (s : Spot) (fs : List ℕ) where
     asks = no_asking;
   }
     where
-      no_asking : Asking (Whole (record { at = g; n = n })) after
+      no_asking : Asking (Some (Whole (record { at = g; n = n }))) after
       no_asking v m to (compares r x y) d l known formed stands far fits =
           let z : ◌≡◌ {A = ℕ} 0 1 = cc (if_role v (compares r x y) d l formed stands) in absurd (omega arith)
       no_asking v m to (joins w x y) d l known formed stands far fits =
           let z : ◌≡◌ {A = ℕ} 0 1 = cc (if_role v (joins w x y) d l formed stands) in absurd (omega arith)
 
-      simply : Simply (Whole (record { at = g; n = n })) after
+      simply : Simply (Some (Whole (record { at = g; n = n }))) after
       simply v m to (setting w e) l known formed stands fits =
           let z : ◌≡◌ {A = ℕ} 0 1 = cc (set_role v e (Store w) l formed.1 stands) in absurd (omega arith)
       simply v m to (send e) l known formed stands fits =
@@ -392,7 +376,7 @@ module _ (os table : List ℕ) (first : ℕ) (s : Spot) (fs : List ℕ) where
             };
           }
 
-  pub begin_joined : (many : ℕ) → Conds many ≡ here → (b : Begun) (after : List ℕ) → Joined os first s many fs b after → Beginning os table first s fs b after
+  pub begin_joined : (many : ℕ) → Conds many ≡ here → (b : Option Begun) (after : List ℕ) → Joined os first s many fs b after → Beginning os table first s fs b after
   begin_joined many conds b after joined = record {
     kept = joined.kept;
     whole = λ r is. absurd (joined.never r is);
@@ -416,7 +400,7 @@ module _ (os table : List ℕ) (first : ℕ) (s : Spot) (fs : List ℕ) where
           let its : many ≡ comparisons (joins w x y) = cc (if_role v (joins w x y) d l formed stands) in
           joined.asks v w x y d l known.start known.few formed its stands far fits
 
-  pub begin_missing : (q : Role) → q ≡ here → Unbegun q → Beginning os table first s fs Missing fs
+  pub begin_missing : (q : Role) → q ≡ here → Unbegun q → Beginning os table first s fs None fs
   begin_missing q known unbegun = record {
     kept = refl;
     whole = λ r is. let z : ◌≡◌ {A = ℕ} 0 1 = cc in absurd (omega arith);
@@ -425,13 +409,13 @@ module _ (os table : List ℕ) (first : ℕ) (s : Spot) (fs : List ℕ) where
     asks = no_asking;
   }
     where
-      no_asking : Asking Missing fs
+      no_asking : Asking None fs
       no_asking v m to (compares r x y) d l sheet formed stands far fits =
           absurd (subst Unbegun (known ∙ if_role v (compares r x y) d l formed stands) unbegun)
       no_asking v m to (joins w x y) d l sheet formed stands far fits =
           absurd (subst Unbegun (known ∙ if_role v (joins w x y) d l formed stands) unbegun)
 
-      none : Simply Missing fs
+      none : Simply None fs
       none v m to (setting w e) l sheet formed stands fits = absurd (subst Unbegun (known ∙ set_role v e (Store w) l formed.1 stands) unbegun)
       none v m to (send e) l sheet formed stands fits = absurd (subst Unbegun (known ∙ set_role v e Send l formed stands) unbegun)
       none v m to (goto t) l sheet formed stands fits = absurd (subst Unbegun (known ∙ ap (λ k. role_of first (first_order k)) stands) unbegun)

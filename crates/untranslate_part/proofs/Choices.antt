@@ -6,9 +6,9 @@ use native.Mathlib.Omega.{arith}
 use borrow.Author.Tests.{lt-ltb, le-leb, ltb-true}
 use lib.Dec.{ltb, leb}
 use lib.ListN.{length-append}
+use Rattle.std.specs.Prelude.{Option, Some, None}
 use Rattle.base.specs.Choice.{pick}
 use Rattle.base.proofs.Cases.{chosen_first}
-use Rattle.sheet.specs.declared.Field.{Field}
 use Rattle.sheet.specs.declared.Field.TheVariants.{Else, Start, Finish}
 use Rattle.sheet.specs.Memory.{part_fields}
 use Rattle.untranslate_expression.specs.declared.Spot.{Spot}
@@ -17,9 +17,8 @@ use Rattle.untranslate_expression.proofs.Places.{writes_more, safe_more}
 use Rattle.untranslate_part.specs.declared.Role.{Role}
 use Rattle.untranslate_part.specs.declared.Role.TheVariants.{Inside, Last, Goto, Branch as Branches, Cond as Conds, Skip as Skips, Stop as Stops}
 use Rattle.untranslate_part.specs.declared.Parts.{Parts}
-use Rattle.untranslate_part.specs.declared.Parts.TheVariants.{One, Two, Missing}
-use Rattle.untranslate_part.specs.declared.Turn.TheVariants.{More, Done}
-use Rattle.untranslate_part.specs.Internal.{role_at, parts_by, parts_of, Further, Stands, Parting, Grouping, Choosing}
+use Rattle.untranslate_part.specs.declared.Parts.TheVariants.{One, Two}
+use Rattle.untranslate_part.specs.Internal.{role_at, parts_by, parts_of, Further, Stands, Grouping, Choosing}
 
 -- ---- which parts
 
@@ -27,86 +26,63 @@ parts_first : (at to end : ℕ) (q : Role) → at < to → to ≤ end → parts_
 unfolding pick
 parts_first at to end q h g = rw (lt-ltb at to h, le-leb to end g) refl
 
-parts_second : (to end z : ℕ) (q : Role) → q ≡ Skips z → to < z → z ≤ end → parts_by to end q ≡ Two (to - 1) to z
+parts_second : (to end z : ℕ) (q : Role) → q ≡ Skips z → to < z → z ≤ end → parts_by to end q ≡ Some (Two (to - 1) to z)
 unfolding pick
 parts_second to end z q is h g = rw (is, lt-ltb to z h, le-leb z end g) refl
 
-one_on : (at to end : ℕ) (r : Role) (q : ℕ) → parts_of at to end r ≡ One q → at < q
+one_on : (at to end : ℕ) (r : Role) (q : ℕ) → parts_of at to end r ≡ Some (One q) → at < q
 one_on at to end r q e =
-    let a = chosen_first (ltb at to) _ Missing (One q) (λ z. let no : ◌≡◌ {A = ℕ} 0 1 = cc in omega arith) e in
-    let b = chosen_first (leb to end) _ Missing (One q) (λ z. let no : ◌≡◌ {A = ℕ} 0 1 = cc in omega arith) a.1 in
+    let a = chosen_first (ltb at to) _ None (Some (One q)) (λ z. let no : ◌≡◌ {A = ℕ} 0 1 = cc in omega arith) e in
+    let b = chosen_first (leb to end) _ None (Some (One q)) (λ z. let no : ◌≡◌ {A = ℕ} 0 1 = cc in omega arith) a.1 in
     omega (arith, ltb-true at to a.0, by_role r b.1)
   where
-    by_role : (r : Role) → parts_by to end r ≡ One q → q ≡ to
+    by_role : (r : Role) → parts_by to end r ≡ Some (One q) → q ≡ to
     by_role Inside e = cc
     by_role (Last f) e = cc
     by_role (Goto a) e = cc
     by_role (Branches t a) e = cc
     by_role (Conds n) e = cc
     by_role (Skips z) e =
-        let a = chosen_first (ltb to z) _ Missing (One q) (λ z. let no : ◌≡◌ {A = ℕ} 0 1 = cc in omega arith) e in
-        let b = chosen_first (leb z end) _ Missing (One q) (λ z. let no : ◌≡◌ {A = ℕ} 0 1 = cc in omega arith) a.1 in
+        let a = chosen_first (ltb to z) _ None (Some (One q)) (λ z. let no : ◌≡◌ {A = ℕ} 0 1 = cc in omega arith) e in
+        let b = chosen_first (leb z end) _ None (Some (One q)) (λ z. let no : ◌≡◌ {A = ℕ} 0 1 = cc in omega arith) a.1 in
         let none = b.1 in
         let no : ◌≡◌ {A = ℕ} 0 1 = cc in absurd (omega arith)
     by_role Stops e = cc
 
-two_on : (at to end : ℕ) (r : Role) (q p z : ℕ) → parts_of at to end r ≡ Two q p z → at < z
+two_on : (at to end : ℕ) (r : Role) (q p z : ℕ) → parts_of at to end r ≡ Some (Two q p z) → at < z
 two_on at to end r q p z e =
-    let a = chosen_first (ltb at to) _ Missing (Two q p z) (λ z. let no : ◌≡◌ {A = ℕ} 0 1 = cc in omega arith) e in
-    let b = chosen_first (leb to end) _ Missing (Two q p z) (λ z. let no : ◌≡◌ {A = ℕ} 0 1 = cc in omega arith) a.1 in
+    let a = chosen_first (ltb at to) _ None (Some (Two q p z)) (λ z. let no : ◌≡◌ {A = ℕ} 0 1 = cc in omega arith) e in
+    let b = chosen_first (leb to end) _ None (Some (Two q p z)) (λ z. let no : ◌≡◌ {A = ℕ} 0 1 = cc in omega arith) a.1 in
     omega (arith, ltb-true at to a.0, by_role r b.1)
   where
-    by_role : (r : Role) → parts_by to end r ≡ Two q p z → to < z
+    by_role : (r : Role) → parts_by to end r ≡ Some (Two q p z) → to < z
     by_role Inside e = let no : ◌≡◌ {A = ℕ} 0 1 = cc in absurd (omega arith)
     by_role (Last f) e = let no : ◌≡◌ {A = ℕ} 0 1 = cc in absurd (omega arith)
     by_role (Goto a) e = let no : ◌≡◌ {A = ℕ} 0 1 = cc in absurd (omega arith)
     by_role (Branches t a) e = let no : ◌≡◌ {A = ℕ} 0 1 = cc in absurd (omega arith)
     by_role (Conds n) e = let no : ◌≡◌ {A = ℕ} 0 1 = cc in absurd (omega arith)
     by_role (Skips k) e =
-        let a = chosen_first (ltb to k) _ Missing (Two q p z) (λ z. let no : ◌≡◌ {A = ℕ} 0 1 = cc in omega arith) e in
-        let b = chosen_first (leb k end) _ Missing (Two q p z) (λ z. let no : ◌≡◌ {A = ℕ} 0 1 = cc in omega arith) a.1 in
+        let a = chosen_first (ltb to k) _ None (Some (Two q p z)) (λ z. let no : ◌≡◌ {A = ℕ} 0 1 = cc in omega arith) e in
+        let b = chosen_first (leb k end) _ None (Some (Two q p z)) (λ z. let no : ◌≡◌ {A = ℕ} 0 1 = cc in omega arith) a.1 in
         let two = b.1 in
         let same : k ≡ z = cc in
         omega (arith, ltb-true to k a.0)
     by_role Stops e = let no : ◌≡◌ {A = ℕ} 0 1 = cc in absurd (omega arith)
 
--- ---- a part behind its mark
-
-pub group_read :
-    (os table : List ℕ) (at q first deep : ℕ) (mark : Field) (fs : List ℕ) (n u : ℕ) (m : List ℕ)
-    → Put mark n fs u m
-    → (r : ℕ) (after : List ℕ)
-    → Parting os table at q first deep m u r after
-    → Grouping os table at q first deep mark fs n r after
-group_read os table at q first deep mark fs n u m put r after part = record {
-  safe = safe_more put.safe part.safe;
-  whole = λ v k to x rest stands room.
-      let one = put.writes (omega arith) in
-      writes_more one (part.whole v k to x rest stands (omega (arith, one.place, put.safe.kept)));
-}
-
 -- ---- the fields
 
 module _ (os table : List ℕ) (b : Spot) (a q first deep : ℕ) (fs : List ℕ) where
-  abbrev parts : Parts
+  abbrev parts : Option Parts
   parts = parts_of b.at a q (role_at first (a - 1) os)
 
-  one_told : parts_by a q (role_at first (a - 1) os) ≡ One a → b.at < a → a ≤ q → parts ≡ One a
+  one_told : parts_by a q (role_at first (a - 1) os) ≡ Some (One a) → b.at < a → a ≤ q → parts ≡ Some (One a)
   one_told alone low high = parts_first b.at a q (role_at first (a - 1) os) low high ∙ alone
 
-  two_told : (z : ℕ) → role_at first (a - 1) os ≡ Skips z → b.at < a → a < z → z ≤ q → parts ≡ Two (a - 1) a z
+  two_told : (z : ℕ) → role_at first (a - 1) os ≡ Skips z → b.at < a → a < z → z ≤ q → parts ≡ Some (Two (a - 1) a z)
   two_told z skips low middle high =
       parts_first b.at a q (role_at first (a - 1) os) low (omega arith) ∙ parts_second a q z (role_at first (a - 1) os) skips middle high
 
-  pub choose_flat : deep ≡ 0 → Choosing os table b a q first deep fs Done fs
-  choose_flat flat = record {
-    kept = refl;
-    more = λ r is. let no : ◌≡◌ {A = ℕ} 0 1 = cc in absurd (omega arith);
-    one = λ v m to x rest stands levels alone low high room. absurd (omega arith);
-    two = λ v m to x y z rest more stands second levels skips low middle high room. absurd (omega arith);
-  }
-
-  pub choose_none : Missing ≡ parts → Choosing os table b a q first deep fs Done fs
+  pub choose_none : None ≡ parts → Choosing os table b a q first deep fs None fs
   choose_none known = record {
     kept = refl;
     more = λ r is. let no : ◌≡◌ {A = ℕ} 0 1 = cc in absurd (omega arith);
@@ -118,11 +94,11 @@ module _ (os table : List ℕ) (b : Spot) (a q first deep : ℕ) (fs : List ℕ)
 
   module _ (e x : ℕ) (m₁ : List ℕ) where
     pub choose_one :
-        One e ≡ parts
+        Some (One e) ≡ parts
         → Grouping os table b.at e first (deep - 1) Start fs b.n x m₁
         → (n : ℕ) (after : List ℕ)
         → Put Finish x m₁ n after
-        → Choosing os table b a q first deep fs (More (record { at = e; n = n })) after
+        → Choosing os table b a q first deep fs (Some (record { at = e; n = n })) after
     choose_one known group n after last = record {
       kept = last.safe.kept ∙ group.safe.kept;
       more = λ r is.
@@ -141,13 +117,13 @@ module _ (os table : List ℕ) (b : Spot) (a q first deep : ℕ) (fs : List ℕ)
 
     pub choose_two :
         (d z : ℕ)
-        → Two e d z ≡ parts
+        → Some (Two e d z) ≡ parts
         → Grouping os table b.at e first (deep - 1) Start fs b.n x m₁
         → (y : ℕ) (m₂ : List ℕ)
         → Grouping os table d z first (deep - 1) Else m₁ x y m₂
         → (n : ℕ) (after : List ℕ)
         → Put Finish y m₂ n after
-        → Choosing os table b a q first deep fs (More (record { at = z; n = n })) after
+        → Choosing os table b a q first deep fs (Some (record { at = z; n = n })) after
     choose_two d z known group y m₂ other n after last = record {
       kept = last.safe.kept ∙ other.safe.kept ∙ group.safe.kept;
       more = λ r is.

@@ -6,22 +6,22 @@ use mathlib.Core.List.{List, [], ◌∷◌, ◌++◌}
 use native.Mathlib.Omega.{arith}
 use lib.ListN.{length, take}
 use lib.Seq.{length-take-le}
+use Rattle.std.specs.Prelude.{Some, None, unwrap_or}
 use Rattle.base.specs.Choice.{pick}
 use Rattle.word.specs.declared.Relation.{Relation}
 use Rattle.order.specs.declared.Order.{Order}
 use Rattle.sheet.specs.declared.Joining.{Joining}
 use Rattle.sheet.specs.declared.Field.TheVariants.{If}
 use Rattle.sheet.specs.Sheet.{Condition, joins}
-use Rattle.sheet.specs.Condition.{comparisons, AllExpressed, most_comparisons, trying, asking, asking_code}
+use Rattle.sheet.specs.Condition.{comparisons, AllExpressed, trying, asking, asking_code}
 use Rattle.untranslate_expression.specs.declared.Spot.{Spot}
 use Rattle.untranslate_expression.specs.Internal.{orders_at, behind, Put}
 use Rattle.untranslate_expression.proofs.Places.{orders_behind, writes_more, safe_more}
-use Rattle.untranslate_condition.specs.declared.Lead.TheVariants.{To, Nowhere}
 use Rattle.untranslate_condition.specs.Internal.{lead_at, branches_end, PastBranches, far_code, Trying}
 use Rattle.untranslate_condition.proofs.Places.{orders_past, orders_before}
 use Rattle.untranslate_condition.proofs.Leads.{condition_branches}
 use Rattle.untranslate_condition.proofs.Conditions.{far_length, try_far, Leads, branch_before}
-use Rattle.untranslate_part.specs.declared.Begun.TheVariants.{Asked, Missing}
+use Rattle.untranslate_part.specs.declared.Begun.TheVariants.{Asked}
 use Rattle.untranslate_part.specs.Internal.{Further, Joined}
 
 none_left : (q : ℕ) (l : List Order) → branches_end 0 q l ≡ q
@@ -30,14 +30,6 @@ none_left q [] = refl
 none_left q (o ∷ l) = refl
 
 module _ (os : List ℕ) (first : ℕ) (s : Spot) (many : ℕ) (fs : List ℕ) where
-  pub joined_many : most_comparisons < many → Joined os first s many fs Missing fs
-  joined_many h = record {
-    kept = refl;
-    never = λ r is. let z : ◌≡◌ {A = ℕ} 0 1 = cc in omega arith;
-    asked = λ r a is. let z : ◌≡◌ {A = ℕ} 0 1 = cc in absurd (omega arith);
-    asks = λ v w x y d l start few formed its stands far fits. absurd (omega (arith, formed.2));
-  }
-
   module _ (e : ℕ) (past : PastBranches os (s.at + 1) many e) where
     -- where the condition ends, and what its last branch tells
     record Placed (v : ℕ) (c : Condition) (d : ℕ) (l : List Order) : Type 0 where
@@ -66,7 +58,7 @@ module _ (os : List ℕ) (first : ℕ) (s : Spot) (many : ℕ) (fs : List ℕ) w
         ∙ none_left (p + trying v c) l) in
         record { codes = codes; there = there; leads = branch_before os v p e true d c l codes there }
 
-    pub joined_none : Nowhere ≡ lead_at (e - 1) os → Joined os first s many fs Missing fs
+    pub joined_none : None ≡ lead_at (e - 1) os → Joined os first s many fs None fs
     joined_none none = record {
       kept = refl;
       never = λ r is. let z : ◌≡◌ {A = ℕ} 0 1 = cc in omega arith;
@@ -80,12 +72,12 @@ module _ (os : List ℕ) (first : ℕ) (s : Spot) (many : ℕ) (fs : List ℕ) w
     pub joined_read :
         s.at < length os
         → (t : Relation) (a : ℕ)
-        → To t a ≡ lead_at (e - 1) os
+        → Some (t, a) ≡ lead_at (e - 1) os
         → (u : ℕ) (mid : List ℕ)
         → Put If s.n fs u mid
         → (m : ℕ) (after : List ℕ)
         → Trying (take e os) (s.at + 1) true first mid u m after
-        → Joined os first s many fs (Asked (record { at = e; n = m }) a) after
+        → Joined os first s many fs (Some (Asked (record { at = e; n = m }) a)) after
     unfolding asking
     joined_read inside t a known u mid put m after tried = record {
       kept = tried.safe.kept ∙ put.safe.kept;
@@ -97,7 +89,7 @@ module _ (os : List ℕ) (first : ℕ) (s : Spot) (many : ℕ) (fs : List ℕ) w
           let c = joins w x y in
           let g = placed v w x y d l formed.0 its stands in
           let leads = g.leads.is in
-          let there : a ≡ d = cc in
+          let there : a ≡ d = ap (λ x. (unwrap_or {T = Relation × ℕ} x (t, a)).1) (known ∙ leads) in
           let xs = far_code v (s.at + 1) true d c in
           let end : s.at + 1 + length xs ≡ e = ap (λ i. s.at + 1 + i) (far_length v (s.at + 1) true d c) ∙ g.there in
           let short = length-take-le e os (past.inside (omega arith)) in
@@ -108,7 +100,7 @@ module _ (os : List ℕ) (first : ℕ) (s : Spot) (many : ℕ) (fs : List ℕ) w
           (omega (arith, short, far, g.there)) (omega (arith, one.place, put.safe.kept)) in
           record {
             spot = record { at = e; n = m };
-            is = ap (λ k. Asked (record { at = e; n = m }) k) there;
+            is = ap (λ k. Some (Asked (record { at = e; n = m }) k)) there;
             wrote = record { rest = orders_past os (s.at + 1) e xs l g.codes end; writes = writes_more one two };
           };
     }

@@ -87,19 +87,6 @@ begins_role first Stop = refl
 
 -- ---- one order on
 
-pub number_more : (here : Bool) (q : Role) (n : ℕ) → here ≡ true → begins_by q ≡ true → n + 1 ≡ number_behind here q n
-unfolding pick
-number_more here q n e f = rw (e, f) (add-one n)
-
-pub number_other : (here : Bool) (q : Role) (n : ℕ) → begins_by q ≡ false → n ≡ number_behind here q n
-unfolding pick
-number_other true q n f = rw f refl
-number_other false q n f = refl
-
-pub number_inside : (here : Bool) (q : Role) (n : ℕ) → here ≡ false → n ≡ number_behind here q n
-unfolding pick
-number_inside here q n e = rw e refl
-
 number_few : (here : Bool) (q : Role) (n : ℕ) → number_behind here q n ≤ suc n
 unfolding pick
 number_few true q n = few (begins_by q)

@@ -6,6 +6,7 @@ use mathlib.Core.List.{List, [], ◌∷◌, ◌++◌, append_assoc}
 use native.Mathlib.Omega.{arith}
 use lib.Dec.{ltb}
 use lib.ListN.{length, get_or, length-append}
+use Rattle.std.specs.Prelude.{Some}
 use Rattle.base.specs.Choice.{pick}
 use Rattle.order.specs.declared.Order.{Order}
 use Rattle.order.specs.declared.Order.TheVariants.{Word, Number, Store, Neg, Not, Jump, Skip, Branch, Cond, Send, Stop}
@@ -28,12 +29,12 @@ use Rattle.untranslate_part.specs.Internal.{role_of, role_at, parts_by, Stands}
 -- ---- which parts there are
 
 -- where the order before a branch's target is no SKIP there is one part
-store_alone : (t : Bool) (w to q : ℕ) → parts_by to q (pick t (Last (Set w)) Inside) ≡ One to
+store_alone : (t : Bool) (w to q : ℕ) → parts_by to q (pick t (Last (Set w)) Inside) ≡ Some (One to)
 unfolding pick
 store_alone true w to q = refl
 store_alone false w to q = refl
 
-alone : (first to q : ℕ) (o : Order) → is_skip o ≡ false → parts_by to q (role_of first o) ≡ One to
+alone : (first to q : ℕ) (o : Order) → is_skip o ≡ false → parts_by to q (role_of first o) ≡ Some (One to)
 alone first to q (Word f w) e = refl
 alone first to q (Number f n) e = refl
 alone first to q (Store w) e = store_alone (ltb w first) w to q
@@ -91,7 +92,7 @@ module _ (os table : List ℕ) (first p q deep v m : ℕ) (to : ℕ → ℕ) (re
     pub part : (r : ℕ) → orders_at r os ≡ left → (r < z) × Stands os table first r z (deep - 1) v m to x others
     pub behind : (r : ℕ) → r ≡ z → Stands os table first r q deep v m to l rest
     pub levels : 1 ≤ deep
-    pub alone : parts_by z q (role_at first (z - 1) os) ≡ One z
+    pub alone : parts_by z q (role_at first (z - 1) os) ≡ Some (One z)
     pub high : z ≤ q
 
   pub when_stands : (c : Condition) (x l : Part) → Stands os table first p q deep v m to (when c x l) rest → WhenStands c x l

@@ -4,6 +4,7 @@ use mathlib.Core.Path.{◌≡◌, refl, sym, ap, subst, ◌∙◌}
 use mathlib.Core.List.{List, [], ◌∷◌, ◌++◌, append_assoc}
 use native.Mathlib.Omega.{arith}
 use lib.ListN.{length, length-append}
+use Rattle.std.specs.Prelude.{Option, Some, None}
 use Rattle.order.specs.declared.Order.{Order}
 use Rattle.sheet.specs.declared.Field.{Field}
 use Rattle.sheet.specs.declared.Field.TheVariants.{Else, Start, Finish, If}
@@ -16,33 +17,31 @@ use Rattle.untranslate_expression.specs.declared.Spot.{Spot}
 use Rattle.untranslate_expression.specs.Internal.{orders_at, Safe, Writes}
 use Rattle.untranslate_expression.proofs.Places.{writes_none, writes_more, safe_more}
 use Rattle.untranslate_part.specs.declared.Begun.{Begun}
-use Rattle.untranslate_part.specs.declared.Begun.TheVariants.{Whole, Asked, Missing}
-use Rattle.untranslate_part.specs.declared.Turn.{Turn}
-use Rattle.untranslate_part.specs.declared.Turn.TheVariants.{More, Done}
+use Rattle.untranslate_part.specs.declared.Begun.TheVariants.{Whole, Asked}
 use Rattle.untranslate_part.specs.Internal.{Beginning, Stands, Wholly, Parting, Choosing, Onward, Turning}
 use Rattle.untranslate_part.proofs.Standing.{plain_stands, when_stands, either_stands}
 
 -- ---- answers
 
-whole_same : {b : Begun} {r s : Spot} → b ≡ Whole r → b ≡ Whole s → r ≡ s
+whole_same : {b : Option Begun} {r s : Spot} → b ≡ Some (Whole r) → b ≡ Some (Whole s) → r ≡ s
 whole_same x y = cc
 
-asked_same : {b : Begun} {r s : Spot} {a d : ℕ} → b ≡ Asked r a → b ≡ Asked s d → (r ≡ s) × (a ≡ d)
+asked_same : {b : Option Begun} {r s : Spot} {a d : ℕ} → b ≡ Some (Asked r a) → b ≡ Some (Asked s d) → (r ≡ s) × (a ≡ d)
 asked_same x y = (cc, cc)
 
-whole_asked : {b : Begun} {r s : Spot} {a : ℕ} → b ≡ Whole r → b ≡ Asked s a → ⊥
+whole_asked : {b : Option Begun} {r s : Spot} {a : ℕ} → b ≡ Some (Whole r) → b ≡ Some (Asked s a) → ⊥
 whole_asked x y = let no : ◌≡◌ {A = ℕ} 0 1 = cc in omega arith
 
-missing_whole : {b : Begun} {r : Spot} → b ≡ Missing → b ≡ Whole r → ⊥
+missing_whole : {b : Option Begun} {r : Spot} → b ≡ None → b ≡ Some (Whole r) → ⊥
 missing_whole x y = let no : ◌≡◌ {A = ℕ} 0 1 = cc in omega arith
 
-missing_asked : {b : Begun} {r : Spot} {a : ℕ} → b ≡ Missing → b ≡ Asked r a → ⊥
+missing_asked : {b : Option Begun} {r : Spot} {a : ℕ} → b ≡ None → b ≡ Some (Asked r a) → ⊥
 missing_asked x y = let no : ◌≡◌ {A = ℕ} 0 1 = cc in omega arith
 
-more_same : {t : Turn} {r s : Spot} → t ≡ More r → t ≡ More s → r ≡ s
+more_same : {t : Option Spot} {r s : Spot} → t ≡ Some r → t ≡ Some s → r ≡ s
 more_same x y = cc
 
-done_more : {t : Turn} {r : Spot} → t ≡ Done → t ≡ More r → ⊥
+done_more : {t : Option Spot} {r : Spot} → t ≡ None → t ≡ Some r → ⊥
 done_more x y = let no : ◌≡◌ {A = ℕ} 0 1 = cc in omega arith
 
 -- ---- one instruction
@@ -50,11 +49,11 @@ done_more x y = let no : ◌≡◌ {A = ℕ} 0 1 = cc in omega arith
 module _ (os table : List ℕ) (q first deep : ℕ) (s : Spot) (fs : List ℕ) where
   -- it is whole
   pub turn_whole :
-      (b : Begun) (after : List ℕ)
+      (b : Option Begun) (after : List ℕ)
       → Beginning os table first s fs b after
       → (r : Spot)
-      → b ≡ Whole r
-      → Turning os table q first deep s fs (More r) after
+      → b ≡ Some (Whole r)
+      → Turning os table q first deep s fs (Some r) after
   unfolding part_fields size
   turn_whole b after begun r whole = record {
     more = λ k is.
@@ -92,10 +91,10 @@ module _ (os table : List ℕ) (q first deep : ℕ) (s : Spot) (fs : List ℕ) w
 
   -- it is missing
   pub turn_missing :
-      (b : Begun) (after : List ℕ)
+      (b : Option Begun) (after : List ℕ)
       → Beginning os table first s fs b after
-      → b ≡ Missing
-      → Turning os table q first deep s fs Done after
+      → b ≡ None
+      → Turning os table q first deep s fs None after
   unfolding part_fields size
   turn_missing b after begun missing = record {
     more = λ k is. absurd (done_more refl is);
@@ -126,12 +125,12 @@ module _ (os table : List ℕ) (q first deep : ℕ) (s : Spot) (fs : List ℕ) w
           missing_asked missing g.is
 
   -- it is an IF, of which the parts are read
-  module _ (i : Begun) (mid : List ℕ) (begun : Beginning os table first s fs i mid) (b : Spot) (a : ℕ) (asked : i ≡ Asked b a) (t : Turn)
+  module _ (i : Option Begun) (mid : List ℕ) (begun : Beginning os table first s fs i mid) (b : Spot) (a : ℕ) (asked : i ≡ Some (Asked b a)) (t : Option Spot)
       (after : List ℕ) (chosen : Choosing os table b a q first deep mid t after) where
     -- the fields of an IF, and the place behind it
     record Chosen (es : List Field) (z : ℕ) : Type 0 where
       spot : Spot
-      is : t ≡ More spot
+      is : t ≡ Some spot
       there : spot.at ≡ z
       writes : Writes es s.n fs spot.n after
 
@@ -189,7 +188,7 @@ module _ (os table : List ℕ) (q first deep : ℕ) (s : Spot) (fs : List ℕ) w
     -- what is right from behind it is right from it
     asked_onward :
         (r : Spot)
-        → t ≡ More r
+        → t ≡ Some r
         → s.at < q
         → (n : ℕ) (last : List ℕ)
         → Wholly os table r.at q first deep after r.n n last
@@ -230,7 +229,7 @@ module _ (os table : List ℕ) (q first deep : ℕ) (s : Spot) (fs : List ℕ) w
         (writes_more w (next v m to l rest (k.behind r.at place) (omega (arith, w.place, all, chosen.kept, begun.kept))))
 
     asked_never :
-        t ≡ Done
+        t ≡ None
         → s.at < q
         → (v m : ℕ) (to : ℕ → ℕ) (x : Part) (rest : List Order)
         → Stands os table first s.at q deep v m to x rest
@@ -271,16 +270,13 @@ pub record Reached (os table : List ℕ) (at q first deep : ℕ) (fs₀ : List �
       → Wholly os table at q first deep fs₀ n r last
 
 module _ (os table : List ℕ) (at q first deep : ℕ) (fs₀ : List ℕ) (n : ℕ) where
-  pub reach_none : Reached os table at q first deep fs₀ n (record { at = at; n = n }) fs₀
-  reach_none = record { safe = record { kept = refl; inside = λ h. h }; onward = λ r last next. next }
-
   module _ (s : Spot) (fs : List ℕ) (so : Reached os table at q first deep fs₀ n s fs) where
     pub reach_more :
         s.at < q
-        → (t : Turn) (after : List ℕ)
+        → (t : Option Spot) (after : List ℕ)
         → Turning os table q first deep s fs t after
         → (r : Spot)
-        → t ≡ More r
+        → t ≡ Some r
         → Reached os table at q first deep fs₀ n r after
     reach_more inside t after turn r is =
         let o = turn.more r is in
@@ -289,7 +285,7 @@ module _ (os table : List ℕ) (at q first deep : ℕ) (fs₀ : List ℕ) (n : �
           onward = λ k last next. so.onward k last (o.onward inside k last next);
         }
 
-    pub reach_never : s.at < q → (t : Turn) (after : List ℕ) → Turning os table q first deep s fs t after → t ≡ Done → Parting os table at q first deep fs₀ n s.n after
+    pub reach_never : s.at < q → (t : Option Spot) (after : List ℕ) → Turning os table q first deep s fs t after → t ≡ None → Parting os table at q first deep fs₀ n s.n after
     reach_never inside t after turn is =
         let e = turn.done is in
         record {

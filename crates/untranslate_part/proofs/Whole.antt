@@ -1,5 +1,5 @@
 -- The orders of a whole sheet.
-use Prim.Native.Nat.{ℕ, ◌+◌, ◌-◌, ◌≤◌, ◌<◌}
+use Prim.Native.Nat.{ℕ, ◌+◌, ◌-◌, ◌≤◌}
 use mathlib.Core.Path.{◌≡◌, refl, sym, ap, ◌∙◌}
 use mathlib.Core.Bool.{true}
 use mathlib.Core.List.{List, [], ◌∷◌}
@@ -7,7 +7,6 @@ use native.Mathlib.Omega.{arith}
 use lib.ListN.{length, length-append, length-map}
 use lib.Seq.{sets}
 use Rattle.order.specs.declared.Order.TheVariants.{Stop}
-use Rattle.order.specs.Limits.{most_variables, most_orders}
 use Rattle.order.specs.Memory.{order_in, orders_in}
 use Rattle.sheet.specs.Sheet.{Part, count, sheet}
 use Rattle.sheet.specs.Translation.{size, first_order, part_code, translation}
@@ -24,27 +23,6 @@ sheet_length v x os same =
     sym (length-map os order_in) ∙ ap length same ∙ length-append cs (Stop ∷ []) ∙ ap (λ n. n + 1) (code_length v (first_order v x) 0 x)
 
 module _ (os : List ℕ) (v : ℕ) (fs : List ℕ) where
-  pub guess_variables : most_variables < v → Guessing os v fs 0 fs
-  guess_variables h = record {
-    kept = refl;
-    inside = omega arith;
-    whole = λ x formed shallow same few_variables few_orders room. absurd (omega arith);
-  }
-
-  pub guess_orders : most_orders < length os → Guessing os v fs 0 fs
-  guess_orders h = record {
-    kept = refl;
-    inside = omega arith;
-    whole = λ x formed shallow same few_variables few_orders room. absurd (omega arith);
-  }
-
-  pub guess_empty : length os ≡ 0 → Guessing os v fs 0 fs
-  guess_empty h = record {
-    kept = refl;
-    inside = omega arith;
-    whole = λ x formed shallow same few_variables few_orders room. absurd (omega (arith, sheet_length v x os same));
-  }
-
   pub guess_read :
       (base table : List ℕ)
       → table ≡ sets base 0 (numbers (v + 2) true 0 1 (orders_in os))

@@ -1,5 +1,5 @@
 -- What the functions do.
-use Rattle.std.specs.Prelude.{ℕ, suc, ◌+◌, ◌-◌, ◌≤◌, ◌<◌, ◌≡◌, Bool, true, false, List, [], ◌∷◌, ◌++◌, ltb, leb, eqb, length, get_or}
+use Rattle.std.specs.Prelude.{ℕ, suc, ◌+◌, ◌-◌, ◌≤◌, ◌<◌, ◌≡◌, Bool, true, false, List, [], ◌∷◌, ◌++◌, Option, Some, None, ltb, leb, eqb, length, get_or}
 use Rattle.std.proofs.lemmas.List.Edits.{sets}
 use Rattle.base.specs.Choice.{pick}
 use Rattle.word.specs.declared.Relation.{Relation}
@@ -17,7 +17,6 @@ use Rattle.sheet.specs.Condition.{comparisons, asking, asking_code, ConditionFor
 use Rattle.sheet.specs.Translation.{size, part_code}
 use Rattle.sheet.specs.Within.{PartFormed, depth}
 use Rattle.sheet_field.specs.Memory.{field_word}
-use Rattle.untranslate_expression.specs.declared.Link.TheVariants.{End}
 use Rattle.untranslate_expression.specs.declared.Spot.{Spot}
 use Rattle.untranslate_expression.specs.Internal.{orders_at, first_order, link_of, Writes, Safe, Wrote}
 use Rattle.untranslate_part.specs.declared.Role.{Role}
@@ -25,9 +24,7 @@ use Rattle.untranslate_part.specs.declared.Role.TheVariants.{Inside, Last, Goto,
 use Rattle.untranslate_part.specs.declared.Begun.{Begun}
 use Rattle.untranslate_part.specs.declared.Begun.TheVariants.{Whole, Asked}
 use Rattle.untranslate_part.specs.declared.Parts.{Parts}
-use Rattle.untranslate_part.specs.declared.Parts.TheVariants.{One, Two, Missing}
-use Rattle.untranslate_part.specs.declared.Turn.{Turn}
-use Rattle.untranslate_part.specs.declared.Turn.TheVariants.{More, Done}
+use Rattle.untranslate_part.specs.declared.Parts.TheVariants.{One, Two}
 
 -- ---- orders; `first` is the word of the first temporary
 
@@ -101,24 +98,24 @@ pub record Further (s : Spot) (fs : List ℕ) (r : Spot) (after : List ℕ) : Ty
   pub safe : Safe s.n fs r.n after
 
 -- the answer holds the places behind the fields es, which were written, and the orders l are left
-pub record Gives (answer : Spot → Begun) (b : Begun) (os : List ℕ) (es : List Field) (l : List Order) (n : ℕ) (fs after : List ℕ)
+pub record Gives (answer : Spot → Begun) (b : Option Begun) (os : List ℕ) (es : List Field) (l : List Order) (n : ℕ) (fs after : List ℕ)
     : Type 0 where
   pub spot : Spot
-  pub is : b ≡ answer spot
+  pub is : b ≡ Some (answer spot)
   pub wrote : Wrote os es l n fs spot after
 
 -- whatever expression or comparison stands at a place, with the order behind it
-pub record Chained (os : List ℕ) (first : ℕ) (s : Spot) (fs : List ℕ) (b : Begun) (after : List ℕ) : Type 0 where
+pub record Chained (os : List ℕ) (first : ℕ) (s : Spot) (fs : List ℕ) (b : Option Begun) (after : List ℕ) : Type 0 where
   pub kept : length after ≡ length fs
-  pub whole : (r : Spot) → b ≡ Whole r → Further s fs r after
-  pub asked : (r : Spot) (a : ℕ) → b ≡ Asked r a → Further s fs r after
+  pub whole : (r : Spot) → b ≡ Some (Whole r) → Further s fs r after
+  pub asked : (r : Spot) (a : ℕ) → b ≡ Some (Asked r a) → Further s fs r after
   pub lasts :
       (v : ℕ) (e : Expression) (o : Order) (f : Field) (l : List Order)
       → first ≡ v + 2
       → first + length os ≤ 4294967295
       → Expressed v e
       → role_of first o ≡ Last f
-      → link_of first first (o ∷ l) ≡ End
+      → link_of first first (o ∷ l) ≡ None
       → orders_at s.at os ≡ code v 0 e ++ (o ∷ l)
       → s.n + length (f ∷ expression_fields e) ≤ length fs
       → Gives (λ r. Whole r) b os (f ∷ expression_fields e) l s.n fs after
@@ -135,10 +132,10 @@ pub record Chained (os : List ℕ) (first : ℕ) (s : Spot) (fs : List ℕ) (b :
 -- ---- COND and a joined condition
 
 -- whatever joined condition stands at a place, where COND has the number `many`
-pub record Joined (os : List ℕ) (first : ℕ) (s : Spot) (many : ℕ) (fs : List ℕ) (b : Begun) (after : List ℕ) : Type 0 where
+pub record Joined (os : List ℕ) (first : ℕ) (s : Spot) (many : ℕ) (fs : List ℕ) (b : Option Begun) (after : List ℕ) : Type 0 where
   pub kept : length after ≡ length fs
-  pub never : (r : Spot) → b ≡ Whole r → ⊥
-  pub asked : (r : Spot) (a : ℕ) → b ≡ Asked r a → Further s fs r after
+  pub never : (r : Spot) → b ≡ Some (Whole r) → ⊥
+  pub asked : (r : Spot) (a : ℕ) → b ≡ Some (Asked r a) → Further s fs r after
   pub asks :
       (v : ℕ) (w : Joining) (x y : Condition) (d : ℕ) (l : List Order)
       → first ≡ v + 2
@@ -159,10 +156,10 @@ pub record Known (os table : List ℕ) (first v m : ℕ) (to : ℕ → ℕ) : Ty
   pub leads : (s : ℕ) → Leads m s → get_or table (to s) 0 ≡ s
 
 -- whatever instruction stands at a place; of an IF what it asks
-pub record Beginning (os table : List ℕ) (first : ℕ) (s : Spot) (fs : List ℕ) (b : Begun) (after : List ℕ) : Type 0 where
+pub record Beginning (os table : List ℕ) (first : ℕ) (s : Spot) (fs : List ℕ) (b : Option Begun) (after : List ℕ) : Type 0 where
   pub kept : length after ≡ length fs
-  pub whole : (r : Spot) → b ≡ Whole r → Further s fs r after
-  pub asked : (r : Spot) (a : ℕ) → b ≡ Asked r a → Further s fs r after
+  pub whole : (r : Spot) → b ≡ Some (Whole r) → Further s fs r after
+  pub asked : (r : Spot) (a : ℕ) → b ≡ Some (Asked r a) → Further s fs r after
   pub simple :
       (v m : ℕ) (to : ℕ → ℕ) (u : Simple) (l : List Order)
       → Known os table first v m to
@@ -182,17 +179,17 @@ pub record Beginning (os table : List ℕ) (first : ℕ) (s : Spot) (fs : List �
 -- ---- instructions one behind the other
 
 -- the order before `to` is a SKIP exactly where there is a second part
-abbrev pub parts_by : ℕ → ℕ → Role → Parts
-parts_by to end Inside = One to
-parts_by to end (Last f) = One to
-parts_by to end (Goto a) = One to
-parts_by to end (Branches r a) = One to
-parts_by to end (Conds n) = One to
-parts_by to end (Skips z) = pick (ltb to z) (pick (leb z end) (Two (to - 1) to z) Missing) Missing
-parts_by to end Stops = One to
+abbrev pub parts_by : ℕ → ℕ → Role → Option Parts
+parts_by to end Inside = Some (One to)
+parts_by to end (Last f) = Some (One to)
+parts_by to end (Goto a) = Some (One to)
+parts_by to end (Branches r a) = Some (One to)
+parts_by to end (Conds n) = Some (One to)
+parts_by to end (Skips z) = pick (ltb to z) (pick (leb z end) (Some (Two (to - 1) to z)) None) None
+parts_by to end Stops = Some (One to)
 
-abbrev pub parts_of : ℕ → ℕ → ℕ → Role → Parts
-parts_of at to end q = pick (ltb at to) (pick (leb to end) (parts_by to end q) Missing) Missing
+abbrev pub parts_of : ℕ → ℕ → ℕ → Role → Option Parts
+parts_of at to end q = pick (ltb at to) (pick (leb to end) (parts_by to end q) None) None
 
 -- the orders of x stand from order `at` to before order q, with others behind them
 pub record Stands (os table : List ℕ) (first at q deep v m : ℕ) (to : ℕ → ℕ) (x : Part) (rest : List Order) : Type 0 where
@@ -224,21 +221,21 @@ pub record Grouping (os table : List ℕ) (at q first deep : ℕ) (mark : Field)
       → Writes (mark ∷ part_fields x) n fs r after
 
 -- the answer holds the places behind the fields es and before order q
-pub record Leaves (t : Turn) (q : ℕ) (es : List Field) (n : ℕ) (fs after : List ℕ) : Type 0 where
+pub record Leaves (t : Option Spot) (q : ℕ) (es : List Field) (n : ℕ) (fs after : List ℕ) : Type 0 where
   pub spot : Spot
-  pub is : t ≡ More spot
+  pub is : t ≡ Some spot
   pub there : spot.at ≡ q
   pub writes : Writes es n fs spot.n after
 
 -- the parts of an IF, behind its branch to order a
-pub record Choosing (os table : List ℕ) (b : Spot) (a q first deep : ℕ) (fs : List ℕ) (t : Turn) (after : List ℕ) : Type 0 where
+pub record Choosing (os table : List ℕ) (b : Spot) (a q first deep : ℕ) (fs : List ℕ) (t : Option Spot) (after : List ℕ) : Type 0 where
   pub kept : length after ≡ length fs
-  pub more : (r : Spot) → t ≡ More r → Further b fs r after
+  pub more : (r : Spot) → t ≡ Some r → Further b fs r after
   pub one :
       (v m : ℕ) (to : ℕ → ℕ) (x : Part) (rest : List Order)
       → Stands os table first b.at a (deep - 1) v m to x rest
       → 1 ≤ deep
-      → parts_by a q (role_at first (a - 1) os) ≡ One a
+      → parts_by a q (role_at first (a - 1) os) ≡ Some (One a)
       → b.at < a
       → a ≤ q
       → b.n + length (Start ∷ (part_fields x ++ (Finish ∷ []))) ≤ length fs
@@ -274,6 +271,6 @@ pub record Ended (os table : List ℕ) (q first deep : ℕ) (s : Spot) (fs after
       → s.n + length (part_fields x) ≤ length fs
       → ⊥
 
-pub record Turning (os table : List ℕ) (q first deep : ℕ) (s : Spot) (fs : List ℕ) (t : Turn) (after : List ℕ) : Type 0 where
-  pub more : (r : Spot) → t ≡ More r → Onward os table q first deep s fs r after
-  pub done : t ≡ Done → Ended os table q first deep s fs after
+pub record Turning (os table : List ℕ) (q first deep : ℕ) (s : Spot) (fs : List ℕ) (t : Option Spot) (after : List ℕ) : Type 0 where
+  pub more : (r : Spot) → t ≡ Some r → Onward os table q first deep s fs r after
+  pub done : t ≡ None → Ended os table q first deep s fs after

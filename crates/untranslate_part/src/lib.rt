@@ -14,7 +14,7 @@ use order::Order;
 use order_number::order_in;
 use sheet::Field;
 use sheet_field::{MOST_COMPARISONS, MOST_LEVELS, opposite_of};
-use untranslate_condition::{Lead, lead_at, less, past_branches, read_condition};
+use untranslate_condition::{lead_at, past_branches, read_condition};
 use untranslate_expression::{Spot, order_at, past, put_field, read_expression};
 use word::Relation;
 
@@ -40,40 +40,30 @@ pub enum Role {
 pub enum Begun {
     Whole(Spot),
     Asked(Spot, u32),
-    Missing,
 }
 
-// The parts of an IF: one, which ends before an order; or two, where the first ends before an order, and the second begins with
-// an order and ends before another.
+// The parts of an IF: one, which ends before an order; or two, where the first ends before an order, and the second begins with an order
+// and ends before another.
 #[derive(Clone, Copy)]
 pub enum Parts {
     One(usize),
-    Two(usize, usize, usize),
-    Missing,
-}
-
-// What became of an instruction: the places behind it, or that there is none.
-#[derive(Clone, Copy)]
-pub enum Turn {
-    More(Spot),
-    Done,
+    Two {
+        first_end: usize,
+        second: usize,
+        second_end: usize,
+    },
 }
 
 // `first` is the word of the first temporary.
+#[tactic(auto, unfolding(base::specs::Choice::pick))]
 fn role_of(o: Order, first: u32) -> Role
     ensures { result ≡ role_of first o }
 {
     match o {
-        Order::Word(_, _) => Role::Inside,
-        Order::Number(_, _) => Role::Inside,
-        Order::Store(w) => {
-            if w < first {
-                return Role::Last(Field::Set(w));
-            }
+        Order::Store(w) if w < first => Role::Last(Field::Set(w)),
+        Order::Word(_, _) | Order::Number(_, _) | Order::Store(_) | Order::Neg | Order::Not => {
             Role::Inside
         }
-        Order::Neg => Role::Inside,
-        Order::Not => Role::Inside,
         Order::Jump(a) => Role::Goto(a),
         Order::Skip(a) => Role::Skip(a),
         Order::Branch(s, a) => Role::Branch(s, a),
@@ -97,13 +87,9 @@ fn inner(q: Role, k: u32) -> u32
     ensures { result ≡ inner_by k q }
 {
     match q {
-        Role::Inside => k,
-        Role::Last(_) => k,
-        Role::Goto(_) => k,
-        Role::Branch(_, _) => less(k),
-        Role::Cond(n) => less(n),
-        Role::Skip(_) => k,
-        Role::Stop => k,
+        Role::Branch(_, _) => k.saturating_sub(1),
+        Role::Cond(n) => n.saturating_sub(1),
+        _ => k,
     }
 }
 
@@ -113,33 +99,23 @@ fn ends(q: Role, k: u32) -> bool
     ensures { result ≡ ends_by k q }
 {
     match q {
-        Role::Inside => false,
-        Role::Last(_) => true,
-        Role::Goto(_) => true,
+        Role::Last(_) | Role::Goto(_) | Role::Skip(_) => true,
         Role::Branch(_, _) => k == 0,
-        Role::Cond(_) => false,
-        Role::Skip(_) => true,
-        Role::Stop => false,
+        Role::Inside | Role::Cond(_) | Role::Stop => false,
     }
 }
 
 // The number of the next instruction behind an order, where n is that before it.
+#[tactic(auto, unfolding(base::specs::Choice::pick))]
 fn number_behind(here: bool, q: Role, n: u32) -> u32
     requires { n < 4294967295 }
     ensures { result ≡ number_behind here q n }
 {
-    if here {
-        return match q {
-            Role::Inside => n + 1,
-            Role::Last(_) => n + 1,
-            Role::Goto(_) => n + 1,
-            Role::Branch(_, _) => n + 1,
-            Role::Cond(_) => n + 1,
-            Role::Skip(_) => n,
-            Role::Stop => n,
-        };
+    if here && !matches!(q, Role::Skip(_) | Role::Stop) {
+        n + 1
+    } else {
+        n
     }
-    n
 }
 
 // For each order the number of the instruction that begins with it, or of the next that begins; for STOP one past the last.
@@ -148,28 +124,16 @@ fn number_all(orders: &[u64], first: u32, table: &mut [u32])
     requires room { length orders.now ≤ length table.old }
     ensures { table.new ≡ sets table.old 0 (numbers first true 0 1 (orders_in orders.now)) }
 {
-    let mut i = 0;
     let mut here = true;
     let mut k = 0;
     let mut n = 1;
-    while i < orders.len() {
+    for i in 0..orders.len() {
         table[i] = n;
         let q = role_of(order_in(orders[i]), first);
         n = number_behind(here, q, n);
         here = ends(q, k);
         k = inner(q, k);
-        i += 1;
     }
-}
-
-fn number_at(table: &[u32], a: u32) -> u32
-    ensures { result ≡ get_or table.now a 0 }
-{
-    let i = a as usize;
-    if i < table.len() {
-        return table[i];
-    }
-    0
 }
 
 // ---- an expression or one comparison, and the order behind it
@@ -184,7 +148,7 @@ fn put_if(fields: &mut [u64], n: usize, s: Relation)
 
 // An instruction that begins with an expression, or an IF: the expression or the comparison is read to the places behind the first
 // field, which the order behind tells.
-fn read_chain(orders: &[u64], first: u32, fields: &mut [u64], s: Spot) -> Begun
+fn read_chain(orders: &[u64], first: u32, fields: &mut [u64], s: Spot) -> Option<Begun>
     requires { s.n < length fields.old }
     ensures { Chained orders.now first s fields.old result fields.new }
 {
@@ -192,28 +156,22 @@ fn read_chain(orders: &[u64], first: u32, fields: &mut [u64], s: Spot) -> Begun
     let e = read_expression(orders, s.at, first, first, fields, n + 1);
     let at = e.at;
     match role_at(orders, at, first) {
-        Role::Inside => Begun::Missing,
         Role::Last(f) => {
             put_field(fields, n, f);
-            Begun::Whole(Spot {
+            Some(Begun::Whole(Spot {
                 at: past(orders, at),
                 n: e.n,
-            })
+            }))
         }
-        Role::Goto(_) => Begun::Missing,
         Role::Branch(r, a) => {
             put_if(fields, n, r);
-            Begun::Asked(
-                Spot {
-                    at: past(orders, at),
-                    n: e.n,
-                },
-                a,
-            )
+            let behind = Spot {
+                at: past(orders, at),
+                n: e.n,
+            };
+            Some(Begun::Asked(behind, a))
         }
-        Role::Cond(_) => Begun::Missing,
-        Role::Skip(_) => Begun::Missing,
-        Role::Stop => Begun::Missing,
+        _ => None,
     }
 }
 
@@ -221,48 +179,42 @@ fn read_chain(orders: &[u64], first: u32, fields: &mut [u64], s: Spot) -> Begun
 
 // An IF that begins with COND, "whose number is the count of comparisons", to behind its last branch. The orders that are lent on end
 // there, so that none is read for a comparison of this IF and again for an instruction behind it.
-fn read_joined(orders: &[u64], first: u32, fields: &mut [u64], s: Spot, many: u32) -> Begun
+fn read_joined(orders: &[u64], first: u32, fields: &mut [u64], s: Spot, many: u32) -> Option<Begun>
     requires { s.at < length orders.now }
     ensures { Joined orders.now first s many fields.old result fields.new }
 {
     if MOST_COMPARISONS < many {
-        return Begun::Missing;
+        return None;
     }
     let p = s.at + 1;
     let e = past_branches(orders, p, many);
-    let Lead::To(_, d) = lead_at(orders, e - 1) else {
-        return Begun::Missing;
-    };
+    let (_, d) = lead_at(orders, e - 1)?;
     let n = put_field(fields, s.n, Field::If);
     let m = read_condition(&orders[..e], p, true, first, fields, n);
-    Begun::Asked(Spot { at: e, n: m }, d)
+    Some(Begun::Asked(Spot { at: e, n: m }, d))
 }
 
 // ---- an instruction by its first order
 
 // An instruction that is no IF, or an IF with what it asks.
-fn begin(orders: &[u64], table: &[u32], first: u32, fields: &mut [u64], s: Spot) -> Begun
+fn begin(orders: &[u64], table: &[u32], first: u32, fields: &mut [u64], s: Spot) -> Option<Begun>
     ensures { Beginning orders.now table.now first s fields.old result fields.new }
 {
-    let at = s.at;
-    let n = s.n;
+    let Spot { at, n } = s;
     if fields.len() <= n {
-        return Begun::Missing;
+        return None;
     }
     match role_at(orders, at, first) {
         Role::Inside => read_chain(orders, first, fields, s),
-        Role::Last(_) => Begun::Missing,
         Role::Goto(a) => {
-            let m = put_field(fields, n, Field::Goto(number_at(table, a)));
-            Begun::Whole(Spot {
+            let m = put_field(fields, n, Field::Goto(base::at(table, a as usize, 0)));
+            Some(Begun::Whole(Spot {
                 at: past(orders, at),
                 n: m,
-            })
+            }))
         }
-        Role::Branch(_, _) => Begun::Missing,
         Role::Cond(many) => read_joined(orders, first, fields, s, many),
-        Role::Skip(_) => Begun::Missing,
-        Role::Stop => Begun::Missing,
+        _ => None,
     }
 }
 
@@ -271,32 +223,26 @@ fn begin(orders: &[u64], table: &[u32], first: u32, fields: &mut [u64], s: Spot)
 // The parts of an IF whose first part begins with order `at` and whose branch leads to order `to`, among the orders before `end`. The
 // order before `to` is a SKIP exactly where there is a second part. Each order is read once: where the branch or the SKIP leads back,
 // or out, there is no sheet.
-fn parts_at(orders: &[u64], at: usize, to: usize, end: usize, first: u32) -> Parts
+#[tactic(auto, unfolding(base::specs::Choice::pick))]
+fn parts_at(orders: &[u64], at: usize, to: usize, end: usize, first: u32) -> Option<Parts>
     ensures { result ≡ parts_of at to end (role_at first (to - 1) orders.now) }
 {
-    if to <= at {
-        return Parts::Missing;
-    }
-    if end < to {
-        return Parts::Missing;
+    if to <= at || end < to {
+        return None;
     }
     match role_at(orders, to - 1, first) {
-        Role::Inside => Parts::One(to),
-        Role::Last(_) => Parts::One(to),
-        Role::Goto(_) => Parts::One(to),
-        Role::Branch(_, _) => Parts::One(to),
-        Role::Cond(_) => Parts::One(to),
         Role::Skip(z) => {
-            let far = z as usize;
-            if far <= to {
-                return Parts::Missing;
+            let second_end = z as usize;
+            if second_end <= to || end < second_end {
+                return None;
             }
-            if end < far {
-                return Parts::Missing;
-            }
-            Parts::Two(to - 1, to, far)
+            Some(Parts::Two {
+                first_end: to - 1,
+                second: to,
+                second_end,
+            })
         }
-        Role::Stop => Parts::One(to),
+        _ => Some(Parts::One(to)),
     }
 }
 
@@ -316,7 +262,7 @@ fn read_part(
 {
     let mut s = Spot { at, n };
     while s.at < end {
-        let Turn::More(r) = read_one(orders, table, end, first, deep, fields, s) else {
+        let Some(r) = read_one(orders, table, end, first, deep, fields, s) else {
             return s.n;
         };
         s = r;
@@ -324,7 +270,7 @@ fn read_part(
     s.n
 }
 
-// One instruction.
+// One instruction: the places behind it; or none, where no instruction is read.
 #[cycle(read_group_read_if_read_one_read_part)]
 fn read_one(
     orders: &[u64],
@@ -334,17 +280,16 @@ fn read_one(
     deep: u32,
     fields: &mut [u64],
     s: Spot,
-) -> Turn
+) -> Option<Spot>
     ensures { Turning orders.now table.now end first deep s fields.old result fields.new }
 {
-    match begin(orders, table, first, fields, s) {
-        Begun::Whole(r) => Turn::More(r),
+    match begin(orders, table, first, fields, s)? {
+        Begun::Whole(r) => Some(r),
         Begun::Asked(b, a) => read_if(orders, table, b, a, end, first, deep, fields),
-        Begun::Missing => Turn::Done,
     }
 }
 
-// The parts of an IF, of which the first begins with order b.at.
+// The parts of an IF, of which the first begins with order b.at: the places behind them; or none, where they are not read.
 #[cycle(read_group_read_if_read_one_read_part)]
 fn read_if(
     orders: &[u64],
@@ -355,28 +300,30 @@ fn read_if(
     first: u32,
     deep: u32,
     fields: &mut [u64],
-) -> Turn
+) -> Option<Spot>
     ensures { Choosing orders.now table.now b to end first deep fields.old result fields.new }
 {
     if deep == 0 {
-        return Turn::Done;
+        return None;
     }
-    let at = b.at;
-    let n = b.n;
+    let Spot { at, n } = b;
     let inner = deep - 1;
-    match parts_at(orders, at, to as usize, end, first) {
+    match parts_at(orders, at, to as usize, end, first)? {
         Parts::One(q) => {
             let x = read_group(orders, table, at, q, first, inner, fields, n, Field::Start);
             let m = put_field(fields, x, Field::Finish);
-            Turn::More(Spot { at: q, n: m })
+            Some(Spot { at: q, n: m })
         }
-        Parts::Two(q, p, z) => {
+        Parts::Two {
+            first_end: q,
+            second: p,
+            second_end: z,
+        } => {
             let x = read_group(orders, table, at, q, first, inner, fields, n, Field::Start);
             let y = read_group(orders, table, p, z, first, inner, fields, x, Field::Else);
             let m = put_field(fields, y, Field::Finish);
-            Turn::More(Spot { at: z, n: m })
+            Some(Spot { at: z, n: m })
         }
-        Parts::Missing => Turn::Done,
     }
 }
 
@@ -403,13 +350,7 @@ fn read_group(
 pub fn guess(orders: &[u64], v: u32, fields: &mut [u64]) -> usize
     ensures { Guessing orders.now v fields.old result fields.new }
 {
-    if order::MOST_VARIABLES < v {
-        return 0;
-    }
-    if MOST_ORDERS < orders.len() {
-        return 0;
-    }
-    if orders.len() == 0 {
+    if order::MOST_VARIABLES < v || MOST_ORDERS < orders.len() || orders.is_empty() {
         return 0;
     }
     let first = v + 2;

@@ -8,8 +8,8 @@ returns-then-k-lt23 c =
     let f = field_in c.args.w in
     let e = c.kind_in-k.ensures in
     record {
-      exact = rw (c.byte_at.ensures, c.requires) (count_bare f _ e c.if-k-lt23.true);
-      few = rw (c.byte_at.ensures, c.requires) (omega (arith, short_front f _ e));
+      exact = rw (c.at.ensures, c.requires) (count_bare f _ e c.if-k-lt23.true);
+      few = rw (c.at.ensures, c.requires) (omega (arith, short_front f _ e));
     }
 
 pub returns : goal.returns
@@ -18,6 +18,6 @@ returns c =
     let e = c.kind_in-k.ensures in
     let d = c.decimal_length.ensures in
     record {
-      exact = rw (c.byte_at.ensures, c.requires, d.exact, c.value_in.ensures) (count_numbered f _ e c.if-k-lt23.false);
-      few = rw (c.byte_at.ensures, c.requires) (omega (arith, short_front f _ e, d.few));
+      exact = rw (c.at.ensures, c.requires, d.exact, c.value_in.ensures) (count_numbered f _ e c.if-k-lt23.false);
+      few = rw (c.at.ensures, c.requires) (omega (arith, short_front f _ e, d.few));
     }

@@ -9,5 +9,5 @@ returns-in_default c = rw c.in_default.is refl
 
 pub returns : goal.returns
 returns c =
-    put_shown_parts _ _ _ _ _ _ _ c.in-As.is c.field_in.ensures
+    put_shown_parts _ _ _ _ _ _ _ c.in-Some.is c.field_in.ensures
     c.separator_of.ensures c.put_byte-i.ensures c.put_field.ensures

@@ -1,4 +1,4 @@
-use Prim.Native.Nat.{◌+◌, ◌-◌, ◌≤◌}
+use Prim.Native.Nat.{◌+◌, ◌≤◌}
 use mathlib.Core.Path.{◌≡◌}
 use lib.ListN.{length}
 use Rattle.sheet_field.specs.Memory.{fields_at}
@@ -8,6 +8,3 @@ use Rattle.sheet_text.proofs.text_length.Given as goal
 
 abbrev pub invariant-loop-i : goal.invariant-loop-i
 invariant-loop-i l = (l.room + length (fields_text (lines_at l.i l.fields)) ≡ l.left + 1 + length (text_of_fields l.v l.instructions (fields_at 0 l.fields))) × (l.left ≤ l.room)
-
-abbrev pub decreases-loop-i : goal.decreases-loop-i
-decreases-loop-i l = length l.fields - l.i

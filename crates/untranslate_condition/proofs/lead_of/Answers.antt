@@ -1,11 +1,12 @@
+use native.Mathlib.Omega.{arith}
 use Rattle.untranslate_condition.proofs.Leads.{lead_low, lead_branch, lead_high}
 use Rattle.untranslate_condition.proofs.lead_of.Goals as goal
 
-pub returns-then-k-lt5 : goal.returns-then-k-lt5
-returns-then-k-lt5 c = lead_low _ c.if-k-lt5.true
+pub returns-in-5-to-10 : goal.returns-in-5-to-10
+returns-in-5-to-10 c = lead_branch _ (omega arith) (omega arith) _ c.relation.ensures
 
-pub returns-then-k-lt11 : goal.returns-then-k-lt11
-returns-then-k-lt11 c = lead_branch _ c.if-k-lt5.false c.if-k-lt11.true _ c.relation.ensures
+pub returns-in_default : goal.returns-in_default
+returns-in_default c = lead_low _ (omega arith)
 
-pub returns : goal.returns
-returns c = lead_high _ c.if-k-lt5.false c.if-k-lt11.false
+pub returns-in_default-2 : goal.returns-in_default-2
+returns-in_default-2 c = lead_high _ (omega arith) (omega arith)

@@ -11,7 +11,4 @@ abbrev pub decreases-read_link : goal.decreases-read_link
 decreases-read_link l = 2 * (length l.orders.now - l.s.at) + 1
 
 abbrev pub invariant-read_expression-loop-q : goal.invariant-read_expression-loop-q
-invariant-read_expression-loop-q l = Onwards l.orders l.first l.word l.p l.initial.q l.initial.s l.initial.fields l.q l.s l.fields × (length l.fields ≡ length l.initial.fields)
-
-abbrev pub decreases-read_expression-loop-q : goal.decreases-read_expression-loop-q
-decreases-read_expression-loop-q l = l.q
+invariant-read_expression-loop-q l = Onwards l.orders l.first l.word l.p l.leaf l.initial.s l.initial.fields l.q l.s l.fields × (length l.fields ≡ length l.initial.fields)
