@@ -12,7 +12,7 @@ use Rattle.base.specs.Choice.{pick}
 use Rattle.base.proofs.Cases.{by_test, by_less}
 use Rattle.order.specs.Limits.{most_temporaries, most_orders}
 use Rattle.sheet.specs.declared.Field.{Field}
-use Rattle.sheet.specs.Sheet.{Part, count, Sheet}
+use Rattle.sheet.specs.Sheet.{Part, count}
 use Rattle.sheet.specs.Condition.{most_comparisons}
 use Rattle.sheet.specs.Translation.{size}
 use Rattle.sheet.specs.Within.{most_levels}
@@ -29,16 +29,18 @@ use Rattle.labels.specs.Memory.{instruction_numbers}
 use Rattle.labels.proofs.Finding.{labels_arrived, so_far_later}
 use Rattle.groups.specs.Memory.{group_word}
 use Rattle.groups.proofs.Held.{held_more}
-use Rattle.fields_put.specs.declared.Put.{Put}
-use Rattle.fields_put.specs.declared.Put.TheVariants.{Fields as PutFields, Unfit as NotPut}
+use Rattle.std.proofs.Common.{Result, Ok, Err}
+use Rattle.source.specs.declared.Refusal.TheVariants.{Limit as OverLimit}
+use Rattle.fields_put.specs.declared.Unfit.{Unfit as NotPut}
 use Rattle.fields.specs.Memory.{field_jumps, packed_field, unpacked, jump_in, statement_numbers}
 use Rattle.fields_put.specs.Answers.{fields, put_in, put_of}
 use Rattle.fields_put.proofs.Putting.{put_fit}
 use Rattle.fields.proofs.Instructions.{jumps_fields, jumps_append, fields_again, jumps_again}
 use Rattle.front_end_forms.specs.declared.Progress.{Progress}
-use Rattle.front_end_forms.specs.declared.Step.TheVariants.{Further, Refused}
+use Rattle.front_end_forms.specs.declared.Stage.TheVariants.{Instructions}
+use Rattle.front_end_forms.specs.declared.Failure.TheVariants.{Refused}
 use Rattle.front_end_forms.specs.Memory.{NameTable, program_fields, HoldsLabels, HoldsGroups, HoldsFields, Holds}
-use Rattle.front_end_forms.specs.Answers.{Comes, NoSheet, FewCounts, goes_on, IsInstruction}
+use Rattle.front_end_forms.specs.Answers.{Comes, Goes, FewCounts, goes_on, IsInstruction}
 use Rattle.front_end_forms.specs.Internal.{too_deep, Opens}
 use Rattle.front_end_forms.proofs.Stages.{comes_refused, comes_further}
 use Rattle.front_end_forms.proofs.Counting.{instruction_count, instruction_orders, sized, some_instruction, place_fields, place_count, place_orders, program_twice, program_some}
@@ -64,11 +66,11 @@ counts_few {q} h =
 -- ---- fields put behind those that are held
 
 module _ {gs : List Group} {x : Part} {js : List _} {n many orders : ℕ} {ws : List ℕ} (h : HoldsFields gs x js n many orders ws)
-    (r : Put) (after : List ℕ) (new : List Field) (told : put_in r after ≡ fields (fields_from 0 n ws ++ new)) where
-  pub never_unfit : {A : Type 0} → r ≡ NotPut → A
-  never_unfit e = let z : ◌≡◌ {A = ℕ} 0 1 = cc (rw e at told) in absurd (omega arith)
+    (r : Result ℕ NotPut) (after : List ℕ) (new : List Field) (told : put_in r after ≡ fields (fields_from 0 n ws ++ new)) where
+  pub never_unfit : {A : Type 0} {u : NotPut} → r ≡ Err u → A
+  never_unfit e = let z = rw e at told in absurd (cc)
 
-  module _ (m : ℕ) (e : r ≡ PutFields m) where
+  module _ (m : ℕ) (e : r ≡ Ok m) where
     now_held : fields_from 0 m after ≡ fields_from 0 n ws ++ new
     now_held = cc (rw e at told)
 
@@ -161,40 +163,40 @@ module _ {q : Program} {p : Progress} {ns : NameTable} {ls gs fs : List ℕ} (h 
       let s = sized own i z is.its_fields size_too v in
       rw (is.its_opening, s.its_instructions, h.its_groups.opened) (deep_told i q.groups)
 
-  module _ {P : Program → Progress → Type 0} {G : Sheet → Type 0} where
-    pub over_temporaries : most_temporaries < z.temporaries → Comes P G (Refused 11 k) limited
+  module _ {A : Type 0} {T : A → Outcome → Type 0} where
+    pub over_temporaries : most_temporaries < z.temporaries → Comes T (Err (Refused OverLimit k)) limited
     unfolding pick
     over_temporaries g =
         let s = sized own i z is.its_fields size_too v in
         let t : most_temporaries < temporaries_in i = omega (arith, g, s.its_temporaries) in
-        comes_refused 11 k (rw (lt-ltb most_temporaries (temporaries_in i) t) refl)
+        comes_refused OverLimit k (rw (lt-ltb most_temporaries (temporaries_in i) t) refl)
 
-    pub over_comparisons : z.temporaries ≤ most_temporaries → most_comparisons < z.comparisons → Comes P G (Refused 11 k) limited
+    pub over_comparisons : z.temporaries ≤ most_temporaries → most_comparisons < z.comparisons → Comes T (Err (Refused OverLimit k)) limited
     unfolding pick
     over_comparisons few g =
         let s = sized own i z is.its_fields size_too v in
         let t : most_comparisons < comparisons_in i = omega (arith, g, s.its_comparisons) in
-        comes_refused 11 k
+        comes_refused OverLimit k
         (few_temporaries few (with_few_comparisons k i rest) ∙ rw (lt-ltb most_comparisons (comparisons_in i) t) refl)
 
     pub over_orders : z.temporaries ≤ most_temporaries → z.comparisons ≤ most_comparisons → most_orders - p.orders ≤ z.orders
-        → Comes P G (Refused 11 k) limited
+        → Comes T (Err (Refused OverLimit k)) limited
     unfolding pick
     over_orders few compared g =
         let s = sized own i z is.its_fields size_too v in
         let u : most_orders < orders_with_stop (placing k i q) = omega (arith, g, s.its_orders, total, h.its_fields.few_orders) in
-        comes_refused 11 k (few_both few compared ∙ over (rw (lt-ltb most_orders (orders_with_stop (placing k i q)) u) refl))
+        comes_refused OverLimit k (few_both few compared ∙ over (rw (lt-ltb most_orders (orders_with_stop (placing k i q)) u) refl))
 
     pub over_levels : z.temporaries ≤ most_temporaries → z.comparisons ≤ most_comparisons → (t : Bool)
-        → t ≡ too_deep opens z.instructions p.groups → t ≡ true → Comes P G (Refused 11 k) limited
+        → t ≡ too_deep opens z.instructions p.groups → t ≡ true → Comes T (Err (Refused OverLimit k)) limited
     unfolding pick
-    over_levels few compared t known e = comes_refused 11 k (few_both few compared ∙ rw (sym deep ∙ sym known ∙ e) refl)
+    over_levels few compared t known e = comes_refused OverLimit k (few_both few compared ∙ rw (sym deep ∙ sym known ∙ e) refl)
 
   -- the limits are kept
   module _ (good : all is_label (jumps_in i) ≡ true) (few_statements : k < statement_numbers) (few : z.temporaries ≤ most_temporaries)
       (compared : z.comparisons ≤ most_comparisons) (g : z.orders < most_orders - p.orders)
       (t : Bool) (known : t ≡ too_deep opens z.instructions p.groups) (fits : t ≡ false)
-      (r : Put) (after : List ℕ) (told : put_in r after ≡ put_of k (fields_at 0 own) p.fields fs) (kept : length after ≡ length fs) where
+      (r : Result ℕ NotPut) (after : List ℕ) (told : put_in r after ≡ put_of k (fields_at 0 own) p.fields fs) (kept : length after ≡ length fs) where
     few_orders : instruction_orders v i < most_orders - p.orders
     few_orders = let s = sized own i z is.its_fields size_too v in omega (arith, g, s.its_orders)
 
@@ -218,10 +220,10 @@ module _ {q : Program} {p : Progress} {ns : NameTable} {ls gs fs : List ℕ} (h 
     put_told : put_in r after ≡ fields (fields_from 0 p.fields fs ++ map (packed_field k) (fields_at 0 own))
     put_told = told ∙ put_fit k (fields_at 0 own) p.fields fs room
 
-    pub fields_fit : {A : Type 0} → r ≡ NotPut → A
+    pub fields_fit : {A : Type 0} {u : NotPut} → r ≡ Err u → A
     fields_fit e = never_unfit h.its_fields r after _ put_told e
 
-    module _ (m : ℕ) (e : r ≡ PutFields m) (count_too : ℕ) (array : List ℕ)
+    module _ (m : ℕ) (e : r ≡ Ok m) (count_too : ℕ) (array : List ℕ)
         (opened : Opens k (p.instructions + z.instructions) opens p.groups gs count_too array) where
       many : p.instructions + z.instructions ≡ count_outside q.groups + count q.here + instruction_count i
       many = let s = sized own i z is.its_fields size_too v in omega (arith, h.its_fields.counted, s.its_instructions)
@@ -275,11 +277,10 @@ module _ {q : Program} {p : Progress} {ns : NameTable} {ls gs fs : List ℕ} (h 
           (rw is.its_opening at opened)
 
       pub comes_placed :
-          Comes (λ o n. Holds o n ns ls array after) NoSheet
-          (Further (record {
-            stage = 2;
+          Comes (Goes (λ o n. Holds o n ns ls array after))
+          (Ok (record {
+            stage = Instructions;
             names = p.names;
-            letters = p.letters;
             labels = p.labels;
             fields = m;
             instructions = p.instructions + z.instructions;

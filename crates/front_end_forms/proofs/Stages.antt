@@ -2,48 +2,39 @@
 use Prim.Native.Nat.{ℕ}
 use mathlib.Core.Path.{◌≡◌, refl, sym, ◌∙◌}
 use mathlib.Core.List.{List}
-use native.Mathlib.Omega.{arith}
-use Rattle.sheet.specs.Sheet.{Sheet}
 use Rattle.source.specs.Tokens.{Lexeme}
 use Rattle.source.specs.Grammar.{Instruction, Form, ending, labels, instruction, finish, finish_else}
-use Rattle.source.specs.Program.{Program, Stage, nothing, declarations, instructions, Outcome, refused, further, given, in_order}
+use Rattle.source.specs.Program.{Program, Stage, nothing, declarations, instructions, Outcome, refused, further, in_order}
 use Rattle.source.specs.Program.{labelling, instructing, finishing, alternating, concluding}
+use Rattle.std.proofs.Common.{Result, Ok, Err}
+use Rattle.source.specs.declared.Refusal.{Refusal}
+use Rattle.source.specs.declared.Refusal.TheVariants.{Form as NoForm}
+use Rattle.source.specs.Refusals.{refusal_number}
+use Rattle.front_end_forms.specs.declared.Stage.TheVariants.{Nothing}
 use Rattle.front_end_forms.specs.declared.Progress.{Progress}
-use Rattle.front_end_forms.specs.declared.Step.{Step}
-use Rattle.front_end_forms.specs.declared.Step.TheVariants.{Further, Refused, Given, Unfit}
-use Rattle.front_end_forms.specs.Memory.{NameTable, stage_number, Holds}
-use Rattle.front_end_forms.specs.Answers.{Comes, refuses, goes, gives}
+use Rattle.front_end_forms.specs.declared.Failure.{Failure}
+use Rattle.front_end_forms.specs.declared.Failure.TheVariants.{Refused, Unfit}
+use Rattle.front_end_forms.specs.Memory.{NameTable, stage_of, Holds}
+use Rattle.front_end_forms.specs.Answers.{Comes, refuses, comes, Goes}
 
--- ---- the outcome that a step stands for, where the outcome is known
+-- ---- the outcome that an answer stands for, where the outcome is known
 
-pub comes_refused : {P : Program → Progress → Type 0} {G : Sheet → Type 0} {o : Outcome} (n k : ℕ) → o ≡ refused n k → Comes P G (Refused n k) o
-comes_refused {P} {G} n k e = rw e (refuses n k)
+pub comes_refused : {A : Type 0} {T : A → Outcome → Type 0} {o : Outcome} (e : Refusal) (k : ℕ) → o ≡ refused (refusal_number e) k → Comes T (Err (Refused e k)) o
+comes_refused {A} {T} e k same = rw same (refuses e k)
 
-pub comes_further : {P : Program → Progress → Type 0} {G : Sheet → Type 0} {o : Outcome} (q : Program) (p : Progress) → o ≡ further q → P q p → Comes P G (Further p) o
-comes_further {P} {G} q p e h = rw e (goes q p h)
+pub comes_further : {P : Program → Progress → Type 0} {o : Outcome} (q : Program) (p : Progress) → o ≡ further q → P q p → Comes (Goes P) (Ok p) o
+comes_further q p e h = comes p _ (record { program = q; same = e; kept = h })
 
--- ---- what a step says of its outcome
+-- ---- what an answer says of its outcome
 
-pub record Went (P : Program → Progress → Type 0) (p : Progress) (o : Outcome) : Type 0 where
-  pub program : Program
-  pub same : o ≡ further program
-  pub kept : P program p
+abbrev pub Says : {A : Type 0} → (A → Outcome → Type 0) → Result A Failure → Outcome → Type 0
+Says T (Ok a) o = T a o
+Says T (Err (Refused e k)) o = o ≡ refused (refusal_number e) k
+Says T (Err Unfit) o = ⊥
 
-pub record Gave (G : Sheet → Type 0) (o : Outcome) : Type 0 where
-  pub sheet_too : Sheet
-  pub same : o ≡ given sheet_too
-  pub kept : G sheet_too
-
-abbrev pub Says : (Program → Progress → Type 0) → (Sheet → Type 0) → Step → Outcome → Type 0
-Says P G (Further p) o = Went P p o
-Says P G (Refused n k) o = o ≡ refused n k
-Says P G Given o = Gave G o
-Says P G Unfit o = ⊥
-
-pub says : {P : Program → Progress → Type 0} {G : Sheet → Type 0} {r : Step} {o : Outcome} → Comes P G r o → Says P G r o
-says (refuses n k) = refl
-says (goes q p h) = record { program = q; same = refl; kept = h }
-says (gives s g) = record { sheet_too = s; same = refl; kept = g }
+pub says : {A : Type 0} {T : A → Outcome → Type 0} {r : Result A Failure} {o : Outcome} → Comes T r o → Says T r o
+says (refuses e k) = refl
+says (comes a o t) = t
 
 -- ---- forms that stand behind %BEGIN
 
@@ -69,23 +60,23 @@ module _ (q : Program) (k : ℕ) (xs : List Lexeme) where
   else_behind = record { before_all = refl; among_declarations = refl; among_instructions = refl }
 
 module _ {q : Program} {k : ℕ} {xs : List Lexeme} {f : Form} {o : Outcome} (b : Behind q k xs f o) where
-  in_first : (t : Stage) → stage_number t ≡ 0 → in_order q t k xs f ≡ refused 7 k
+  in_first : (t : Stage) → stage_of t ≡ Nothing → in_order q t k xs f ≡ refused 7 k
   in_first nothing e = b.before_all
-  in_first declarations e = absurd (omega arith)
-  in_first instructions e = absurd (omega arith)
+  in_first declarations e = cc
+  in_first instructions e = cc
 
-  in_later : (t : Stage) → (stage_number t ≡ 0 → ⊥) → in_order q t k xs f ≡ o
+  in_later : (t : Stage) → (stage_of t ≡ Nothing → ⊥) → in_order q t k xs f ≡ o
   in_later nothing n = absurd (n refl)
   in_later declarations n = b.among_declarations
   in_later instructions n = b.among_instructions
 
-  module _ {p : Progress} {ns : NameTable} {ls gs fs : List ℕ} (h : Holds q p ns ls gs fs) {P : Program → Progress → Type 0} {G : Sheet → Type 0} where
-    pub early : p.stage ≡ 0 → Comes P G (Refused 7 k) (in_order q q.stage k xs f)
-    early e = comes_refused 7 k (in_first q.stage (sym h.staged ∙ e))
+  module _ {p : Progress} {ns : NameTable} {ls gs fs : List ℕ} (h : Holds q p ns ls gs fs) {A : Type 0} {T : A → Outcome → Type 0} where
+    pub early : p.stage ≡ Nothing → Comes T (Err (Refused NoForm k)) (in_order q q.stage k xs f)
+    early e = comes_refused NoForm k (in_first q.stage (sym h.staged ∙ e))
 
-    module _ (n : p.stage ≡ 0 → ⊥) {r : Step} where
-      pub late : Comes P G r o → Comes P G r (in_order q q.stage k xs f)
+    module _ (n : p.stage ≡ Nothing → ⊥) {r : Result A Failure} where
+      pub late : Comes T r o → Comes T r (in_order q q.stage k xs f)
       late one = rw (in_later q.stage (λ z. n (h.staged ∙ z))) one
 
-      pub late_told : Comes P G r (in_order q q.stage k xs f) → Comes P G r o
+      pub late_told : Comes T r (in_order q q.stage k xs f) → Comes T r o
       late_told one = rw (← in_later q.stage (λ z. n (h.staged ∙ z))) one

@@ -1,10 +1,12 @@
 -- What a statement of each form does to a program in memory, stated of every program that the arguments hold. Nothing is said of
 -- arguments that hold none: the layer calls its functions with none such.
-use Rattle.std.specs.Prelude.{ℕ, ◌+◌, ◌≤◌, ◌<◌, Bool, true, false, ◌≡◌, List, length}
+use Rattle.std.specs.Prelude.{ℕ, ◌+◌, ◌≤◌, ◌<◌, Bool, true, false, ◌≡◌, List, length, Result, Ok, Err}
 use Rattle.order.specs.Limits.{most_orders}
 use Rattle.sheet.specs.Sheet.{Sheet}
 use Rattle.sheet.specs.Within.{most_levels}
 use Rattle.sheet_field.specs.Memory.{fields_at, most_fields}
+use Rattle.source.specs.declared.Refusal.{Refusal}
+use Rattle.source.specs.Refusals.{refusal_number}
 use Rattle.source.specs.Limits.{most_bytes}
 use Rattle.source.specs.Memory.{most_listed, letters_in}
 use Rattle.source.specs.Tokens.{Lexeme}
@@ -15,17 +17,31 @@ use Rattle.source.specs.Program.{Program, Outcome, refused, further, given, name
 use Rattle.fields.specs.Memory.{statement_numbers}
 use Rattle.front_end_forms.specs.declared.Progress.{Progress}
 use Rattle.front_end_forms.specs.declared.Step.{Step}
-use Rattle.front_end_forms.specs.declared.Step.TheVariants.{Further, Refused, Given, Unfit}
+use Rattle.front_end_forms.specs.declared.Step.TheVariants.{Further, Given}
+use Rattle.front_end_forms.specs.declared.Failure.{Failure}
+use Rattle.front_end_forms.specs.declared.Failure.TheVariants.{Refused}
 use Rattle.front_end_forms.specs.Memory.{NameTable, Holds}
 
--- a step and the outcome that it stands for: P holds of a program that goes on, G of a sheet. No outcome is unfit.
-pub data Comes (P : Program → Progress → Type 0) (G : Sheet → Type 0) : Step → Outcome → Type 0 where
-  refuses : (n k : ℕ) → Comes P G (Refused n k) (refused n k)
-  goes : (q : Program) (p : Progress) → P q p → Comes P G (Further p) (further q)
-  gives : (s : Sheet) → G s → Comes P G Given (given s)
+-- an answer and the outcome that it stands for, where T says which that is of an answer that is no failure. No outcome is unfit.
+pub data Comes {A : Type 0} (T : A → Outcome → Type 0) : Result A Failure → Outcome → Type 0 where
+  refuses : (e : Refusal) (k : ℕ) → Comes T (Err (Refused e k)) (refused (refusal_number e) k)
+  comes : (a : A) (o : Outcome) → T a o → Comes T (Ok a) o
 
-abbrev pub NoSheet : Sheet → Type 0
-NoSheet s = ⊥
+-- the outcome is a program that goes on, and P holds of it
+pub record Goes (P : Program → Progress → Type 0) (p : Progress) (o : Outcome) : Type 0 where
+  pub program : Program
+  pub same : o ≡ further program
+  pub kept : P program p
+
+-- the outcome is a sheet, and G holds of it
+pub record Gives (G : Sheet → Type 0) (o : Outcome) : Type 0 where
+  pub sheet_too : Sheet
+  pub same : o ≡ given sheet_too
+  pub kept : G sheet_too
+
+abbrev pub Steps : (Program → Progress → Type 0) → (Sheet → Type 0) → Step → Outcome → Type 0
+Steps P G (Further p) o = Goes P p o
+Steps P G Given o = Gives G o
 
 -- counts that leave room for one instruction more
 pub record FewCounts (p : Progress) : Type 0 where
@@ -35,20 +51,20 @@ pub record FewCounts (p : Progress) : Type 0 where
   pub few_levels : p.groups ≤ most_levels
 
 -- %BEGIN
-abbrev pub Begins : Progress → ℕ → Step → Type 0
+abbrev pub Begins : Progress → ℕ → Result Progress Failure → Type 0
 Begins p k r =
     (q : Program) (ns : NameTable) (ls gs fs : List ℕ) (xs : List Lexeme)
     → Holds q p ns ls gs fs
-    → Comes (λ o n. Holds o n ns ls gs fs) NoSheet r (in_order q q.stage k xs beginning)
+    → Comes (Goes (λ o n. Holds o n ns ls gs fs)) r (in_order q q.stage k xs beginning)
 
 -- a declaration of the names among xs
-abbrev pub Declares : Progress → ℕ → List Lexeme → NameTable → Step → NameTable → Type 0
+abbrev pub Declares : Progress → ℕ → List Lexeme → NameTable → Result Progress Failure → NameTable → Type 0
 Declares p k xs before r after =
     (q : Program) (ls gs fs : List ℕ)
     → Holds q p before ls gs fs
     → length (names_in xs) ≤ most_listed
     → letters_in q.names + letters_in (names_in xs) ≤ most_bytes
-    → Comes (λ o n. Holds o n after ls gs fs) NoSheet r (in_order q q.stage k xs declaration)
+    → Comes (Goes (λ o n. Holds o n after ls gs fs)) r (in_order q q.stage k xs declaration)
 
 -- labels change nothing else that is counted
 pub record SameCounts (p n : Progress) : Type 0 where
@@ -57,19 +73,17 @@ pub record SameCounts (p n : Progress) : Type 0 where
   pub orders_same : n.orders ≡ p.orders
   pub groups_same : n.groups ≡ p.groups
 
-abbrev pub KeepsCounts : Progress → Step → Type 0
-KeepsCounts p (Further n) = SameCounts p n
-KeepsCounts p (Refused n k) = Unit {0}
-KeepsCounts p Given = Unit {0}
-KeepsCounts p Unfit = Unit {0}
+abbrev pub KeepsCounts : Progress → Result Progress Failure → Type 0
+KeepsCounts p (Ok n) = SameCounts p n
+KeepsCounts p (Err e) = Unit {0}
 
 -- the labels ls of a statement
-abbrev pub SetsLabels : Progress → ℕ → List ℕ → List ℕ → Step → List ℕ → Type 0
+abbrev pub SetsLabels : Progress → ℕ → List ℕ → List ℕ → Result Progress Failure → List ℕ → Type 0
 SetsLabels p k ls before r after =
     (q : Program) (ns : NameTable) (gs fs : List ℕ) (xs : List Lexeme)
     → Holds q p ns before gs fs
     → length ls ≤ most_listed
-    → Comes (λ o n. Holds o n ns after gs fs) NoSheet r (in_order q q.stage k xs (labelled_by ls))
+    → Comes (Goes (λ o n. Holds o n ns after gs fs)) r (in_order q q.stage k xs (labelled_by ls))
 
 -- whether an instruction goes on behind its START
 abbrev pub goes_on : Instruction → Bool
@@ -84,11 +98,11 @@ pub record IsInstruction (own : List ℕ) (opens : Bool) (i : Instruction) : Typ
   pub its_opening : opens ≡ goes_on i
 
 -- an instruction with its labels
-abbrev pub Instructs : Progress → ℕ → List ℕ → List ℕ → Bool → List ℕ → List ℕ → List ℕ → Step → List ℕ → List ℕ → List ℕ → Type 0
+abbrev pub Instructs : Progress → ℕ → List ℕ → List ℕ → Bool → List ℕ → List ℕ → List ℕ → Result Progress Failure → List ℕ → List ℕ → List ℕ → Type 0
 Instructs p k labels own opens before_ls before_gs before_fs r ls gs fs =
     (q : Program) (ns : NameTable) (xs : List Lexeme) (i : Instruction)
     → Holds q p ns before_ls before_gs before_fs
     → k < statement_numbers
     → IsInstruction own opens i
     → length labels ≤ most_listed
-    → Comes (λ o n. Holds o n ns ls gs fs) NoSheet r (in_order q q.stage k xs (labelled_instruction labels i))
+    → Comes (Goes (λ o n. Holds o n ns ls gs fs)) r (in_order q q.stage k xs (labelled_instruction labels i))

@@ -17,15 +17,17 @@ use Rattle.name_index.specs.Memory.{NamesHeld}
 use Rattle.labels.specs.Memory.{labels_of, SoFar}
 use Rattle.groups.specs.Memory.{GroupsHeld}
 use Rattle.fields.specs.Memory.{field_jumps, unpacked, jump_in}
+use Rattle.front_end_forms.specs.declared.Stage.{Stage as Reached}
+use Rattle.front_end_forms.specs.declared.Stage.TheVariants.{Nothing, Declarations, Instructions}
 use Rattle.front_end_forms.specs.declared.Progress.{Progress}
 
-abbrev pub stage_number : Stage → ℕ
-stage_number nothing = 0
-stage_number declarations = 1
-stage_number instructions = 2
+abbrev pub stage_of : Stage → Reached
+stage_of nothing = Nothing
+stage_of declarations = Declarations
+stage_of instructions = Instructions
 
 abbrev pub no_progress : Progress
-no_progress = record { stage = 0; names = 0; letters = 0; labels = 0; fields = 0; instructions = 0; orders = 0; groups = 0 }
+no_progress = record { stage = Nothing; names = record { count = 0; letters = 0 }; labels = 0; fields = 0; instructions = 0; orders = 0; groups = 0 }
 
 -- the fields before the innermost list that is not closed, and all of them
 unfoldable pub outside_fields : List Group → List Field
@@ -75,14 +77,14 @@ pub record HoldsFields (gs : List Group) (x : Part) (js : List Jump) (n many ord
 
 -- numbers and arrays hold the program q
 pub record Holds (q : Program) (p : Progress) (names : NameTable) (labels groups fields : List ℕ) : Type 0 where
-  pub staged : p.stage ≡ stage_number q.stage
-  pub its_names : HoldsNames q.names p.names p.letters names
+  pub staged : p.stage ≡ stage_of q.stage
+  pub its_names : HoldsNames q.names p.names.count p.names.letters names
   pub its_labels : HoldsLabels q.set p.labels (p.instructions + 1) labels
   pub its_groups : HoldsGroups q.groups p.groups groups
   pub its_fields : HoldsFields q.groups q.here q.jumps p.fields p.instructions p.orders fields
 
 -- the sheet that the program is, in memory
 pub record Held (p : Progress) (fields : List ℕ) (s : Sheet) : Type 0 where
-  pub variables_too : p.names ≡ variables s
+  pub variables_too : p.names.count ≡ variables s
   pub instructions_too : p.instructions ≡ count (instructions_of s)
   pub fields_too : fields_from 0 p.fields fields ≡ sheet_fields s

@@ -1,32 +1,40 @@
 // What declarations, labels and instructions do to the program so far, document 01 and 02, L1 and L5: names, labels, limits, and their
 // place in the sheet.
-#![tactic(auto)]
+#![tactic(auto, unfolding(base::specs::Choice::pick))]
 
 ghost use Rattle.std.specs.Prelude.{◌≤◌, ◌≡◌};
 ghost use Rattle.sheet.specs.Within.{most_levels};
 ghost use Rattle.source.specs.Memory.{lexemes_from};
 ghost use Rattle.labels.specs.Memory.{labels_at};
+ghost use Rattle.front_end_forms.specs.declared.Failure.{Failure};
 ghost use Rattle.front_end_forms.specs.Memory.{no_progress, table_of};
 ghost use Rattle.front_end_forms.specs.Answers.{Begins, Declares, KeepsCounts, SetsLabels, Instructs, FewCounts};
 ghost use Rattle.front_end_forms.specs.Internal.{too_deep, Opens, Places};
 
 use fields::{all_known, good_jumps};
-use fields_put::{Put, append};
+use fields_put::{Unfit, append};
 use groups::put_first;
-use labels::{Set, set_labels};
-use names::{Declared, declare};
+use labels::set_labels;
+use name_index::Names;
+use names::declare;
 use order::{MOST_ORDERS, MOST_TEMPORARIES, MOST_VARIABLES};
 use sheet_field::{MOST_COMPARISONS, MOST_LEVELS};
-use source::MOST_LABELS;
+use source::{MOST_LABELS, Refusal};
 use translate_size::size_of;
 
-// How far a program was read: which stage it is in (0 nothing, 1 declarations, 2 instructions), and how many names, letters
-// of names, labels, fields, instructions, orders and open groups there are.
+// What of a program was read: nothing, `%BEGIN` or declarations behind it, or labels or instructions.
+#[derive(Clone, Copy, Debug, PartialEq, Eq)]
+pub enum Stage {
+    Nothing,
+    Declarations,
+    Instructions,
+}
+
+// How far a program was read, and how many names, labels, fields, instructions, orders and open groups there are.
 #[derive(Clone, Copy)]
 pub struct Progress {
-    pub stage: u8,
-    pub names: u32,
-    pub letters: u32,
+    pub stage: Stage,
+    pub names: Names,
     pub labels: u32,
     pub fields: usize,
     pub instructions: u32,
@@ -34,23 +42,38 @@ pub struct Progress {
     pub groups: u32,
 }
 
-// What comes of a statement: the program goes on, is refused with a number and a place, or is a whole sheet; or what is given is
-// not fit: the statement is too long, or the arrays hold no program.
+// What comes of a statement that is not refused: the program goes on, or is a whole sheet.
 #[derive(Clone, Copy)]
 pub enum Step {
     Further(Progress),
-    Refused(u32, u32),
     Given,
+}
+
+// Why nothing comes of a statement: the program is refused, with a place; or what is given is not fit: the statement is too long, or
+// the arrays hold no program.
+#[derive(Clone, Copy)]
+pub enum Failure {
+    Refused(Refusal, u32),
     Unfit,
+}
+
+impl From<Unfit> for Failure {
+    ghost from_gives = { λ _ e. e ≡ Failure.Unfit };
+
+    fn from(_e: Unfit) -> Failure {
+        Failure::Unfit
+    }
 }
 
 pub fn nothing_read() -> Progress
     ensures { result ≡ no_progress }
 {
     Progress {
-        stage: 0,
-        names: 0,
-        letters: 0,
+        stage: Stage::Nothing,
+        names: Names {
+            count: 0,
+            letters: 0,
+        },
         labels: 0,
         fields: 0,
         instructions: 0,
@@ -60,21 +83,15 @@ pub fn nothing_read() -> Progress
 }
 
 // %BEGIN
-pub fn begin(p: Progress, k: u32) -> Step
+pub fn begin(p: Progress, k: u32) -> Result<Progress, Failure>
     ensures { Begins p k result }
 {
-    if p.stage != 0 {
-        return Step::Refused(7, k);
+    if p.stage != Stage::Nothing {
+        return Err(Failure::Refused(Refusal::Form, k));
     }
-    Step::Further(Progress {
-        stage: 1,
-        names: p.names,
-        letters: p.letters,
-        labels: p.labels,
-        fields: p.fields,
-        instructions: p.instructions,
-        orders: p.orders,
-        groups: p.groups,
+    Ok(Progress {
+        stage: Stage::Declarations,
+        ..p
     })
 }
 
@@ -88,30 +105,21 @@ pub fn declaration(
     n: usize,
     letters: &mut [u8],
     index: &mut [u32],
-) -> Step
+) -> Result<Progress, Failure>
     ensures { Declares p k (lexemes_from 0 n cells.now kinds.now values.now) (table_of letters.old index.old) result (table_of letters.new index.new) }
 {
-    if p.stage != 1 {
-        return Step::Refused(7, k);
+    if p.stage != Stage::Declarations {
+        return Err(Failure::Refused(Refusal::Form, k));
     }
-    match declare(cells, kinds, values, n, letters, index, p.names, p.letters) {
-        Declared::Names(v, filled) => {
-            if MOST_VARIABLES < v {
-                return Step::Refused(11, k);
+    match declare(cells, kinds, values, n, letters, index, p.names) {
+        Ok(names) => {
+            if MOST_VARIABLES < names.count {
+                return Err(Failure::Refused(Refusal::Limit, k));
             }
-            Step::Further(Progress {
-                stage: 1,
-                names: v,
-                letters: filled,
-                labels: p.labels,
-                fields: p.fields,
-                instructions: p.instructions,
-                orders: p.orders,
-                groups: p.groups,
-            })
+            Ok(Progress { names, ..p })
         }
-        Declared::Refused => Step::Refused(8, k),
-        Declared::Unfit => Step::Unfit,
+        Err(names::Failure::Refused) => Err(Failure::Refused(Refusal::Name, k)),
+        Err(names::Failure::Unfit) => Err(Failure::Unfit),
     }
 }
 
@@ -123,32 +131,27 @@ pub fn label(
     values: &[u32],
     many: usize,
     labels: &mut [u32],
-) -> Step
+) -> Result<Progress, Failure>
     requires { FewCounts p }
     ensures kept { KeepsCounts p result }
     ensures set { SetsLabels p k (labels_at many kinds.now values.now) labels.old result labels.new }
 {
-    if p.stage == 0 {
-        return Step::Refused(7, k);
+    if p.stage == Stage::Nothing {
+        return Err(Failure::Refused(Refusal::Form, k));
     }
     match set_labels(kinds, values, many, labels, p.labels, p.instructions + 1) {
-        Set::Labels(c) => {
-            if MOST_LABELS < c {
-                return Step::Refused(11, k);
+        Ok(set) => {
+            if MOST_LABELS < set {
+                return Err(Failure::Refused(Refusal::Limit, k));
             }
-            Step::Further(Progress {
-                stage: 2,
-                names: p.names,
-                letters: p.letters,
-                labels: c,
-                fields: p.fields,
-                instructions: p.instructions,
-                orders: p.orders,
-                groups: p.groups,
+            Ok(Progress {
+                stage: Stage::Instructions,
+                labels: set,
+                ..p
             })
         }
-        Set::Refused => Step::Refused(9, k),
-        Set::Unfit => Step::Unfit,
+        Err(labels::Failure::Refused) => Err(Failure::Refused(Refusal::Label, k)),
+        Err(labels::Failure::Unfit) => Err(Failure::Unfit),
     }
 }
 
@@ -156,13 +159,7 @@ pub fn label(
 fn too_deep(opens: bool, instructions: u32, count: u32) -> bool
     ensures { result ≡ too_deep opens instructions count }
 {
-    if count < MOST_LEVELS {
-        return false;
-    }
-    if opens {
-        return true;
-    }
-    1 < instructions
+    MOST_LEVELS <= count && (opens || 1 < instructions)
 }
 
 // Opens a group of statement k, where there is one to be opened.
@@ -185,37 +182,33 @@ fn place(
     opens: bool,
     groups: &mut [u64],
     fields: &mut [u64],
-) -> Step
+) -> Result<Progress, Failure>
     requires { FewCounts p }
     ensures { Places p k own.now opens groups.old fields.old result groups.new fields.new }
 {
     let size = size_of(own);
     if MOST_TEMPORARIES < size.temporaries {
-        return Step::Refused(11, k);
+        return Err(Failure::Refused(Refusal::Limit, k));
     }
     if MOST_COMPARISONS < size.comparisons {
-        return Step::Refused(11, k);
+        return Err(Failure::Refused(Refusal::Limit, k));
     }
     if MOST_ORDERS - p.orders <= size.orders {
-        return Step::Refused(11, k);
+        return Err(Failure::Refused(Refusal::Limit, k));
     }
     if too_deep(opens, size.instructions, p.groups) {
-        return Step::Refused(11, k);
+        return Err(Failure::Refused(Refusal::Limit, k));
     }
-    let Put::Fields(n) = append(own, k, fields, p.fields) else {
-        return Step::Unfit;
-    };
+    let n = append(own, k, fields, p.fields)?;
     let instructions = p.instructions + size.instructions;
     let count = open_group(groups, p.groups, k, instructions, opens);
-    Step::Further(Progress {
-        stage: 2,
-        names: p.names,
-        letters: p.letters,
-        labels: p.labels,
+    Ok(Progress {
+        stage: Stage::Instructions,
         fields: n,
         instructions,
         orders: p.orders + size.orders,
         groups: count,
+        ..p
     })
 }
 
@@ -231,23 +224,19 @@ pub fn instruction(
     labels: &mut [u32],
     groups: &mut [u64],
     fields: &mut [u64],
-) -> Step
+) -> Result<Progress, Failure>
     requires { FewCounts p }
     ensures { Instructs p k (labels_at many tokens.now words.now) own.now opens labels.old groups.old fields.old result labels.new groups.new fields.new }
 {
-    if p.stage == 0 {
-        return Step::Refused(7, k);
+    if p.stage == Stage::Nothing {
+        return Err(Failure::Refused(Refusal::Form, k));
     }
-    if all_known(own) {
-        if good_jumps(own) {
-            return match label(p, k, tokens, words, many, labels) {
-                Step::Further(q) => place(q, k, own, opens, groups, fields),
-                Step::Refused(n, at) => Step::Refused(n, at),
-                Step::Given => Step::Given,
-                Step::Unfit => Step::Unfit,
-            };
-        }
-        return Step::Refused(9, k);
+    if !all_known(own) {
+        return Err(Failure::Refused(Refusal::Name, k));
     }
-    Step::Refused(8, k)
+    if !good_jumps(own) {
+        return Err(Failure::Refused(Refusal::Label, k));
+    }
+    let labelled = label(p, k, tokens, words, many, labels)?;
+    place(labelled, k, own, opens, groups, fields)
 }

@@ -11,24 +11,25 @@ use Rattle.base.specs.Choice.{pick}
 use Rattle.order.specs.Limits.{most_orders}
 use Rattle.sheet.specs.declared.Field.{Field}
 use Rattle.sheet.specs.declared.Field.TheVariants.{Else, Finish}
-use Rattle.sheet.specs.Sheet.{Part, end, when, either, Condition, count, Sheet}
+use Rattle.sheet.specs.Sheet.{Part, end, when, either, Condition, count}
 use Rattle.sheet.specs.Translation.{size}
 use Rattle.sheet_field.specs.Memory.{fields_from}
-use Rattle.source.specs.Program.{Program, refused, Group, first, second, append, count_outside, orders_outside, orders_with_stop}
+use Rattle.source.specs.Program.{Program, Outcome, refused, Group, first, second, append, count_outside, orders_outside, orders_with_stop}
 use Rattle.source.specs.Program.{moved, put_off, taken_up, with_few_orders, regrouped, finishing, alternating}
 use Rattle.labels.specs.Answers.{Fits, PutsOff, TakesUp}
 use Rattle.groups.specs.Memory.{group_word, began_in, part_in, GroupsHeld}
 use Rattle.groups.proofs.Held.{began_of, is_second, part_of, held_more, innermost, held_rest}
-use Rattle.fields_put.specs.declared.Put.{Put}
-use Rattle.fields_put.specs.declared.Put.TheVariants.{Fields as PutFields, Unfit as NotPut}
+use Rattle.std.proofs.Common.{Result, Ok, Err}
+use Rattle.source.specs.declared.Refusal.TheVariants.{Form as NoForm, Limit as OverLimit, Group as BadGroup}
+use Rattle.fields_put.specs.declared.Unfit.{Unfit as NotPut}
 use Rattle.fields.specs.Memory.{field_jumps, unpacked, jump_in}
 use Rattle.fields_put.specs.Answers.{fields, put_in, push_of}
 use Rattle.fields_put.proofs.Putting.{push_fit}
 use Rattle.front_end_forms.specs.declared.Progress.{Progress}
-use Rattle.front_end_forms.specs.declared.Step.{Step}
-use Rattle.front_end_forms.specs.declared.Step.TheVariants.{Further, Refused}
+use Rattle.front_end_forms.specs.declared.Failure.{Failure}
+use Rattle.front_end_forms.specs.declared.Failure.TheVariants.{Refused}
 use Rattle.front_end_forms.specs.Memory.{NameTable, program_fields, HoldsLabels, HoldsFields, Holds}
-use Rattle.front_end_forms.specs.Answers.{Comes, NoSheet, FewCounts}
+use Rattle.front_end_forms.specs.Answers.{Comes, Goes, FewCounts}
 use Rattle.front_end_forms.proofs.Stages.{comes_refused, comes_further}
 use Rattle.front_end_forms.proofs.Counting.{first_fields, first_count, first_orders, else_fields, else_count, else_orders, second_fields, second_count, second_orders, program_twice}
 use Rattle.front_end_forms.proofs.Placing.{fields_many, never_unfit, fields_held, jumps_held}
@@ -45,12 +46,12 @@ else_none q k [] e = refl
 else_none q k (first j x c ∷ hs) e = absurd (omega arith)
 else_none q k (second j x c y ∷ hs) e = absurd (omega arith)
 
-module _ {q : Program} {p : Progress} {ns : NameTable} {ls gs fs : List ℕ} (h : Holds q p ns ls gs fs) (k : ℕ) {P : Program → Progress → Type 0} {G : Sheet → Type 0} (none : p.groups ≡ 0) where
-  pub finish_stray : Comes P G (Refused 13 k) (finishing q k q.groups)
-  finish_stray = comes_refused 13 k (finish_none q k q.groups (sym h.its_groups.opened ∙ none))
+module _ {q : Program} {p : Progress} {ns : NameTable} {ls gs fs : List ℕ} (h : Holds q p ns ls gs fs) (k : ℕ) {A : Type 0} {T : A → Outcome → Type 0} (none : p.groups ≡ 0) where
+  pub finish_stray : Comes T (Err (Refused BadGroup k)) (finishing q k q.groups)
+  finish_stray = comes_refused BadGroup k (finish_none q k q.groups (sym h.its_groups.opened ∙ none))
 
-  pub else_stray : Comes P G (Refused 13 k) (alternating q k q.groups)
-  else_stray = comes_refused 13 k (else_none q k q.groups (sym h.its_groups.opened ∙ none))
+  pub else_stray : Comes T (Err (Refused BadGroup k)) (alternating q k q.groups)
+  else_stray = comes_refused BadGroup k (else_none q k q.groups (sym h.its_groups.opened ∙ none))
 
 -- ---- what the innermost group's number tells
 
@@ -91,33 +92,33 @@ else_empty q k (first j x c ∷ hs) n e = rw (eq-eqb (count q.here) 0 e) refl
 else_empty q k (second j x c y ∷ hs) n e = refl
 
 module _ {q : Program} {p : Progress} {ns : NameTable} {ls gs fs : List ℕ} (h : Holds q p ns ls gs fs) (counts : FewCounts p) (k : ℕ) (open_too : p.groups ≡ 0 → ⊥)
-    (b : ℕ) (known : b ≡ began_in (get_or gs (p.groups - 1) 0)) (same : b ≡ p.instructions) {P : Program → Progress → Type 0} {G : Sheet → Type 0} where
-  pub finish_vain : Comes P G (Refused 7 k) (finishing q k q.groups)
+    (b : ℕ) (known : b ≡ began_in (get_or gs (p.groups - 1) 0)) (same : b ≡ p.instructions) {A : Type 0} {T : A → Outcome → Type 0} where
+  pub finish_vain : Comes T (Err (Refused NoForm k)) (finishing q k q.groups)
   finish_vain =
-      comes_refused 7 k
+      comes_refused NoForm k
       (finish_empty q k q.groups (λ z. open_too (h.its_groups.opened ∙ z)) (empty_told h counts open_too b known same))
 
-  pub else_vain : Comes P G (Refused 7 k) (alternating q k q.groups)
+  pub else_vain : Comes T (Err (Refused NoForm k)) (alternating q k q.groups)
   else_vain =
-      comes_refused 7 k
+      comes_refused NoForm k
       (else_empty q k q.groups (λ z. open_too (h.its_groups.opened ∙ z)) (empty_told h counts open_too b known same))
 
 -- ---- one field is put
 
 module _ {gs : List Group} {x : Part} {js : List _} {n many orders : ℕ} {ws : List ℕ} (h : HoldsFields gs x js n many orders ws) (some : 1 ≤ length gs)
-    (f : Field) (plain_field : unpacked f ≡ f) (no_jump : field_jumps (f ∷ []) ≡ []) (r : Put) (after : List ℕ) (told : put_in r after ≡ push_of f n ws) where
+    (f : Field) (plain_field : unpacked f ≡ f) (no_jump : field_jumps (f ∷ []) ≡ []) (r : Result ℕ NotPut) (after : List ℕ) (told : put_in r after ≡ push_of f n ws) where
   push_told : put_in r after ≡ fields (fields_from 0 n ws ++ (f ∷ []))
   push_told =
       told
       ∙ push_fit f n ws (omega (arith, fields_many h, program_twice 0 gs x, h.ordered 0, h.few_orders, h.room_for_fields))
 
-  pub push_fits : {A : Type 0} → r ≡ NotPut → A
+  pub push_fits : {A : Type 0} {u : NotPut} → r ≡ Err u → A
   push_fits e = never_unfit h r after (f ∷ []) push_told e
 
-  pub pushed_fields : (m : ℕ) → r ≡ PutFields m → map unpacked (fields_from 0 m after) ≡ program_fields gs x ++ (f ∷ [])
+  pub pushed_fields : (m : ℕ) → r ≡ Ok m → map unpacked (fields_from 0 m after) ≡ program_fields gs x ++ (f ∷ [])
   pushed_fields m e = fields_held h r after (f ∷ []) push_told m e ∙ ap (λ g. program_fields gs x ++ (g ∷ [])) plain_field
 
-  pub pushed_jumps : (m : ℕ) → r ≡ PutFields m → map jump_in (field_jumps (fields_from 0 m after)) ≡ js
+  pub pushed_jumps : (m : ℕ) → r ≡ Ok m → map jump_in (field_jumps (fields_from 0 m after)) ≡ js
   pushed_jumps m e = jumps_held h r after (f ∷ []) push_told m e ∙ ap (λ l. js ++ map jump_in l) no_jump ∙ append-nil js
 
 finish_jumps : field_jumps (Finish ∷ []) ≡ []
@@ -140,22 +141,21 @@ label_fits h counts = record {
 
 module _ {q : Program} {p : Progress} {ns : NameTable} {ls gs fs : List ℕ} (h : Holds q p ns ls gs fs) (counts : FewCounts p) (k : ℕ) (open_too : p.groups ≡ 0 → ⊥)
     (b : ℕ) (known : b ≡ began_in (get_or gs (p.groups - 1) 0)) (other : b ≡ p.instructions → ⊥)
-    (r : Put) (after : List ℕ) (told : put_in r after ≡ push_of Finish p.fields fs) (kept : length after ≡ length fs) where
+    (r : Result ℕ NotPut) (after : List ℕ) (told : put_in r after ≡ push_of Finish p.fields fs) (kept : length after ≡ length fs) where
   some_groups : 1 ≤ length q.groups
   some_groups = nonzero (length q.groups) (λ e. open_too (h.its_groups.opened ∙ e))
     where
       nonzero : (n : ℕ) → (n ≡ 0 → ⊥) → 1 ≤ n
       nonzero n e = omega arith
 
-  pub finish_fits : {A : Type 0} → r ≡ NotPut → A
+  pub finish_fits : {A : Type 0} {u : NotPut} → r ≡ Err u → A
   finish_fits e = push_fits h.its_fields some_groups Finish refl finish_jumps r after told e
 
-  module _ (m : ℕ) (e : r ≡ PutFields m) (labels_too : List ℕ) (taken : TakesUp (p.instructions + 1) (p.groups - 1) ls labels_too) where
+  module _ (m : ℕ) (e : r ≡ Ok m) (labels_too : List ℕ) (taken : TakesUp (p.instructions + 1) (p.groups - 1) ls labels_too) where
     abbrev now_counted : Progress
     now_counted = record {
       stage = p.stage;
       names = p.names;
-      letters = p.letters;
       labels = p.labels;
       fields = m;
       instructions = p.instructions;
@@ -208,7 +208,7 @@ module _ {q : Program} {p : Progress} {ns : NameTable} {ls gs fs : List ℕ} (h 
             };
           }
 
-    finish_by : (hs : List Group) → q.groups ≡ hs → Comes (λ o n. Holds o n ns labels_too gs after) NoSheet (Further now_counted) (finishing q k hs)
+    finish_by : (hs : List Group) → q.groups ≡ hs → Comes (Goes (λ o n. Holds o n ns labels_too gs after)) (Ok now_counted) (finishing q k hs)
     unfolding pick
     finish_by [] is = absurd (open_too (h.its_groups.opened ∙ ap length is))
     finish_by (first j x c ∷ hs) is =
@@ -218,7 +218,7 @@ module _ {q : Program} {p : Progress} {ns : NameTable} {ls gs fs : List ℕ} (h 
         comes_further _ _ (rw (ne_eqb (count q.here) 0 (filled_told h counts open_too b known other)) refl)
         (closed_holds (second j x c y) hs is (append x (either c y q.here end)) (second_fields j hs x c q.here y) (second_count j hs x c q.here y) (second_orders j hs x c q.here y))
 
-    pub comes_finished : Comes (λ o n. Holds o n ns labels_too gs after) NoSheet (Further now_counted) (finishing q k q.groups)
+    pub comes_finished : Comes (Goes (λ o n. Holds o n ns labels_too gs after)) (Ok now_counted) (finishing q k q.groups)
     comes_finished = finish_by q.groups refl
 
 -- ---- %FINISH %ELSE %START
@@ -241,15 +241,15 @@ module _ {q : Program} {p : Progress} {ns : NameTable} {ls gs fs : List ℕ} (h 
       absurd (omega (arith, part, none))
   else_second e (second j x c y ∷ hs) is = refl
 
-  pub else_again : {P : Program → Progress → Type 0} {G : Sheet → Type 0} → t ≡ true → Comes P G (Refused 7 k) (alternating q k q.groups)
-  else_again e = comes_refused 7 k (else_second e q.groups refl)
+  pub else_again : {A : Type 0} {T : A → Outcome → Type 0} → t ≡ true → Comes T (Err (Refused NoForm k)) (alternating q k q.groups)
+  else_again e = comes_refused NoForm k (else_second e q.groups refl)
 
   module _ (no_second : t ≡ false) (b : ℕ) (known : b ≡ began_in (get_or gs (p.groups - 1) 0)) (other : b ≡ p.instructions → ⊥)
-      {P : Program → Progress → Type 0} {G : Sheet → Type 0} {r : Step} where
+      {A : Type 0} {T : A → Outcome → Type 0} {r : Result A Failure} where
     else_by : (hs : List Group) → q.groups ≡ hs
         → ((j : ℕ) (x : Part) (c : Condition) (rest : List Group) → q.groups ≡ first j x c ∷ rest
-        → Comes P G r (with_few_orders k (regrouped q (put_off (length rest)) (second k x c q.here ∷ rest) end)))
-        → Comes P G r (alternating q k hs)
+        → Comes T r (with_few_orders k (regrouped q (put_off (length rest)) (second k x c q.here ∷ rest) end)))
+        → Comes T r (alternating q k hs)
     unfolding pick
     else_by [] is more = absurd (open_too (h.its_groups.opened ∙ ap length is))
     else_by (first j x c ∷ hs) is more =
@@ -259,8 +259,8 @@ module _ {q : Program} {p : Progress} {ns : NameTable} {ls gs fs : List ℕ} (h 
         absurd (part (inner_part (second j x c y) hs is))
 
     pub else_first : ((j : ℕ) (x : Part) (c : Condition) (rest : List Group) → q.groups ≡ first j x c ∷ rest
-        → Comes P G r (with_few_orders k (regrouped q (put_off (length rest)) (second k x c q.here ∷ rest) end)))
-        → Comes P G r (alternating q k q.groups)
+        → Comes T r (with_few_orders k (regrouped q (put_off (length rest)) (second k x c q.here ∷ rest) end)))
+        → Comes T r (alternating q k q.groups)
     else_first more = else_by q.groups refl more
 
 -- the second part
@@ -274,11 +274,11 @@ module _ {q : Program} {p : Progress} {ns : NameTable} {ls gs fs : List ℕ} (h 
       let all = h.its_fields.ordered v ∙ ap (λ l. orders_outside v l + size v q.here) is in
       omega (arith, all, else_orders j hs x c q.here k v)
 
-  pub second_over : {P : Program → Progress → Type 0} {G : Sheet → Type 0} → most_orders - p.orders ≤ 1 → Comes P G (Refused 11 k) (with_few_orders k now_read)
+  pub second_over : {A : Type 0} {T : A → Outcome → Type 0} → most_orders - p.orders ≤ 1 → Comes T (Err (Refused OverLimit k)) (with_few_orders k now_read)
   unfolding pick
   second_over g =
       let u : most_orders < orders_with_stop now_read = omega (arith, g, second_total (length q.names), counts.few_orders) in
-      comes_refused 11 k (rw (lt-ltb most_orders (orders_with_stop now_read) u) refl)
+      comes_refused OverLimit k (rw (lt-ltb most_orders (orders_with_stop now_read) u) refl)
 
   some : 1 ≤ length q.groups
   some = let n = ap length is in omega (arith, n)
@@ -286,17 +286,16 @@ module _ {q : Program} {p : Progress} {ns : NameTable} {ls gs fs : List ℕ} (h 
   inside : p.groups - 1 ≡ length hs
   inside = let n = h.its_groups.opened ∙ ap length is in omega (arith, n)
 
-  module _ (g : 1 < most_orders - p.orders) (r : Put) (after : List ℕ) (told : put_in r after ≡ push_of Else p.fields fs) (kept : length after ≡ length fs) where
-    pub second_fits : {A : Type 0} → r ≡ NotPut → A
+  module _ (g : 1 < most_orders - p.orders) (r : Result ℕ NotPut) (after : List ℕ) (told : put_in r after ≡ push_of Else p.fields fs) (kept : length after ≡ length fs) where
+    pub second_fits : {A : Type 0} {u : NotPut} → r ≡ Err u → A
     second_fits e = push_fits h.its_fields some Else refl else_jumps r after told e
 
-    module _ (m : ℕ) (e : r ≡ PutFields m) (labels_too : List ℕ) (put : PutsOff (p.instructions + 1) (p.groups - 1) ls labels_too)
+    module _ (m : ℕ) (e : r ≡ Ok m) (labels_too : List ℕ) (put : PutsOff (p.instructions + 1) (p.groups - 1) ls labels_too)
         (array : List ℕ) (stored : array ≡ set gs (p.groups - 1) (group_word k 1 p.instructions)) where
       abbrev now_second : Progress
       now_second = record {
         stage = p.stage;
         names = p.names;
-        letters = p.letters;
         labels = p.labels;
         fields = m;
         instructions = p.instructions;
@@ -346,7 +345,7 @@ module _ {q : Program} {p : Progress} {ns : NameTable} {ls gs fs : List ℕ} (h 
             };
           }
 
-      pub comes_second : Comes (λ o n. Holds o n ns labels_too array after) NoSheet (Further now_second) (with_few_orders k now_read)
+      pub comes_second : Comes (Goes (λ o n. Holds o n ns labels_too array after)) (Ok now_second) (with_few_orders k now_read)
       unfolding pick
       comes_second =
           let u : orders_with_stop now_read ≤ most_orders = omega (arith, g, second_total (length q.names)) in

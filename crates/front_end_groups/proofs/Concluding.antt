@@ -5,7 +5,7 @@ use mathlib.Core.List.{List, [], ◌∷◌, map}
 use native.Mathlib.Omega.{arith}
 use lib.ListN.{length, get_or}
 use Rattle.sheet.specs.declared.Field.{Field}
-use Rattle.sheet.specs.Sheet.{Sheet, count}
+use Rattle.sheet.specs.Sheet.{count}
 use Rattle.sheet.specs.Memory.{part_fields}
 use Rattle.sheet_field.specs.Memory.{fields_from}
 use Rattle.source.specs.Program.{Program, Outcome, refused, Group, count_outside, next_number, closed, Unset, unset, all_set, first_unset, number_of, sheet_of, finished, concluding}
@@ -13,16 +13,18 @@ use Rattle.source.proofs.Parts.{count_same}
 use Rattle.labels.specs.Memory.{labels_of}
 use Rattle.groups.specs.Memory.{statement_in, GroupsHeld}
 use Rattle.groups.proofs.Held.{statement_of_law, innermost, held_rest}
-use Rattle.fields_put.specs.declared.Led.{Led}
-use Rattle.fields_put.specs.declared.Led.TheVariants.{All, Unset as UnsetAt, Unfit as NotLed}
+use Rattle.std.proofs.Common.{Result, Ok, Err}
+use Rattle.source.specs.declared.Refusal.TheVariants.{Label as BadLabel, Group as BadGroup}
+use Rattle.fields_put.specs.declared.Failure.{Failure as NotLed}
+use Rattle.fields_put.specs.declared.Failure.TheVariants.{Unset as UnsetAt, Unfit as TooShort}
 use Rattle.fields.specs.Memory.{label_of, unpacked, jumping}
 use Rattle.fields_put.specs.Answers.{led, refusal, led_by, led_all, told, unfit, led_in, led_of}
 use Rattle.fields_put.proofs.Leading.{led_fit}
 use Rattle.fields.proofs.Instructions.{led_part}
 use Rattle.front_end_forms.specs.declared.Progress.{Progress}
-use Rattle.front_end_forms.specs.declared.Step.TheVariants.{Refused, Given}
+use Rattle.front_end_forms.specs.declared.Failure.TheVariants.{Refused}
 use Rattle.front_end_forms.specs.Memory.{NameTable, outside_fields, program_fields, Holds, Held}
-use Rattle.front_end_forms.specs.Answers.{Comes, refuses, gives, FewCounts}
+use Rattle.front_end_forms.specs.Answers.{Comes, refuses, comes, Gives, FewCounts}
 use Rattle.front_end_forms.proofs.Stages.{comes_refused}
 
 -- ---- a group is open: the outermost tells the place
@@ -44,15 +46,15 @@ unfolding closed
 closed_none gs o e = rw e refl
 
 module _ {q : Program} {p : Progress} {ns : NameTable} {ls gs fs : List ℕ} (h : Holds q p ns ls gs fs) where
-  pub left_open : {P : Program → Progress → Type 0} {G : Sheet → Type 0} → (p.groups ≡ 0 → ⊥) → (s : ℕ) → s ≡ statement_in (get_or gs 0 0)
-      → Comes P G (Refused 13 s) (concluding q)
+  pub left_open : {A : Type 0} {T : A → Outcome → Type 0} → (p.groups ≡ 0 → ⊥) → (s : ℕ) → s ≡ statement_in (get_or gs 0 0)
+      → Comes T (Err (Refused BadGroup s)) (concluding q)
   left_open n s known =
-      comes_refused 13 s
+      comes_refused BadGroup s
       (first_open gs _ q.groups h.its_groups.grouped (λ z. n (h.its_groups.opened ∙ z)) ∙ ap (refused 13) (sym known))
 
   -- ---- none is: the jumps are led
 
-  module _ (counts : FewCounts p) (none : p.groups ≡ 0) (r : Led) (after : List ℕ)
+  module _ (counts : FewCounts p) (none : p.groups ≡ 0) (r : Result (Unit {0}) NotLed) (after : List ℕ)
       (e : led_in r p.fields after ≡ led_of (p.instructions + 1) (labels_of (p.instructions + 1) p.labels ls) p.fields fs) where
     no_groups : q.groups ≡ []
     no_groups = none_open q.groups (sym h.its_groups.opened ∙ none)
@@ -93,25 +95,25 @@ module _ {q : Program} {p : Progress} {ns : NameTable} {ls gs fs : List ℕ} (h 
       fields_too = same ∙ led_part (number_of (next_number q) q.set) held_fields q.here plain_fields;
     }
 
-    pub comes_given : r ≡ All → Comes (λ o n. ⊥) (Held p after) Given (concluding q)
+    pub comes_given : {v : Unit {0}} → r ≡ Ok v → Comes (λ (u : Unit {0}) o. Gives (Held p after) o) (Ok tt) (concluding q)
     comes_given w = rw concludes (by_unset (first_unset q.set q.jumps) (rw w at jumps_led))
       where
         by_unset : (u : Unset) → told (led (fields_from 0 p.fields after)) ≡ told (led_by (number_of (next_number q) q.set) held_fields u)
-            → Comes (λ o n. ⊥) (Held p after) Given (finished q u)
-        by_unset (unset k) z = let n : ◌≡◌ {A = ℕ} 0 1 = cc in absurd (omega arith)
-        by_unset all_set z = gives (sheet_of q) (sheet_held (cc))
+            → Comes (λ (u : Unit {0}) o. Gives (Held p after) o) (Ok tt) (finished q u)
+        by_unset (unset k) z = absurd (cc)
+        by_unset all_set z = comes tt _ (record { sheet_too = sheet_of q; same = refl; kept = sheet_held (cc) })
 
-    pub comes_unset : (k : ℕ) → r ≡ UnsetAt k → Comes (λ o n. ⊥) (Held p after) (Refused 9 k) (concluding q)
+    pub comes_unset : (k : ℕ) → r ≡ Err (UnsetAt k) → Comes (λ (u : Unit {0}) o. Gives (Held p after) o) (Err (Refused BadLabel k)) (concluding q)
     comes_unset k w = rw concludes (by_unset (first_unset q.set q.jumps) (rw w at jumps_led))
       where
         by_unset : (u : Unset) → told (refusal 9 k) ≡ told (led_by (number_of (next_number q) q.set) held_fields u)
-            → Comes (λ o n. ⊥) (Held p after) (Refused 9 k) (finished q u)
-        by_unset (unset j) z = let there : k ≡ j = cc in rw there (refuses 9 j)
-        by_unset all_set z = let n : ◌≡◌ {A = ℕ} 0 1 = cc in absurd (omega arith)
+            → Comes (λ (u : Unit {0}) o. Gives (Held p after) o) (Err (Refused BadLabel k)) (finished q u)
+        by_unset (unset j) z = let there : k ≡ j = cc in rw there (refuses BadLabel j)
+        by_unset all_set z = absurd (cc)
 
-    pub led_fits : {A : Type 0} → r ≡ NotLed → A
+    pub led_fits : {A : Type 0} → r ≡ Err TooShort → A
     led_fits w = by_unset (first_unset q.set q.jumps) (rw w at jumps_led)
       where
         by_unset : {A : Type 0} (u : Unset) → unfit ≡ told (led_by (number_of (next_number q) q.set) held_fields u) → A
-        by_unset (unset k) z = let n : ◌≡◌ {A = ℕ} 0 1 = cc in absurd (omega arith)
-        by_unset all_set z = let n : ◌≡◌ {A = ℕ} 0 1 = cc in absurd (omega arith)
+        by_unset (unset k) z = absurd (cc)
+        by_unset all_set z = absurd (cc)

@@ -7,41 +7,41 @@ ghost use Rattle.front_end_forms.specs.Answers.{FewCounts};
 ghost use Rattle.front_end_groups.specs.Answers.{Finishes, GoesOn, Concludes};
 ghost use Rattle.front_end_groups.specs.Internal.{Seconds};
 
-use fields_put::{Led, Put, lead_jumps, push};
-use front_end_forms::{Progress, Step};
+use fields_put::{lead_jumps, push};
+use front_end_forms::{Failure, Progress, Stage};
 use groups::{began_at, is_second, put_second, statement_at};
 use labels::{put_off, take_up};
 use order::MOST_ORDERS;
 use sheet::Field;
+use source::Refusal;
 
 // %FINISH
-pub fn finish(p: Progress, k: u32, labels: &mut [u32], groups: &[u64], fields: &mut [u64]) -> Step
+pub fn finish(
+    p: Progress,
+    k: u32,
+    labels: &mut [u32],
+    groups: &[u64],
+    fields: &mut [u64],
+) -> Result<Progress, Failure>
     requires { FewCounts p }
     ensures { Finishes p k labels.old groups.now fields.old result labels.new fields.new }
 {
-    if p.stage == 0 {
-        return Step::Refused(7, k);
+    if p.stage == Stage::Nothing {
+        return Err(Failure::Refused(Refusal::Form, k));
     }
     if p.groups == 0 {
-        return Step::Refused(13, k);
+        return Err(Failure::Refused(Refusal::Group, k));
     }
     let g = p.groups - 1;
     if began_at(groups, g) == p.instructions {
-        return Step::Refused(7, k);
+        return Err(Failure::Refused(Refusal::Form, k));
     }
-    let Put::Fields(n) = push(fields, p.fields, Field::Finish) else {
-        return Step::Unfit;
-    };
+    let n = push(fields, p.fields, Field::Finish)?;
     take_up(labels, g, p.instructions + 1);
-    Step::Further(Progress {
-        stage: p.stage,
-        names: p.names,
-        letters: p.letters,
-        labels: p.labels,
+    Ok(Progress {
         fields: n,
-        instructions: p.instructions,
-        orders: p.orders,
         groups: g,
+        ..p
     })
 }
 
@@ -52,27 +52,20 @@ fn second_part(
     labels: &mut [u32],
     groups: &mut [u64],
     fields: &mut [u64],
-) -> Step
+) -> Result<Progress, Failure>
     requires { FewCounts p × (1 ≤ p.groups) }
     ensures { Seconds p k labels.old groups.old fields.old result labels.new groups.new fields.new }
 {
     if MOST_ORDERS - p.orders <= 1 {
-        return Step::Refused(11, k);
+        return Err(Failure::Refused(Refusal::Limit, k));
     }
-    let Put::Fields(n) = push(fields, p.fields, Field::Else) else {
-        return Step::Unfit;
-    };
+    let n = push(fields, p.fields, Field::Else)?;
     put_off(labels, p.instructions + 1, p.groups - 1);
     put_second(groups, p.groups - 1, k, p.instructions);
-    Step::Further(Progress {
-        stage: p.stage,
-        names: p.names,
-        letters: p.letters,
-        labels: p.labels,
+    Ok(Progress {
         fields: n,
-        instructions: p.instructions,
         orders: p.orders + 1,
-        groups: p.groups,
+        ..p
     })
 }
 
@@ -83,39 +76,45 @@ pub fn finish_else(
     labels: &mut [u32],
     groups: &mut [u64],
     fields: &mut [u64],
-) -> Step
+) -> Result<Progress, Failure>
     requires { FewCounts p }
     ensures { GoesOn p k labels.old groups.old fields.old result labels.new groups.new fields.new }
 {
-    if p.stage == 0 {
-        return Step::Refused(7, k);
+    if p.stage == Stage::Nothing {
+        return Err(Failure::Refused(Refusal::Form, k));
     }
     if p.groups == 0 {
-        return Step::Refused(13, k);
+        return Err(Failure::Refused(Refusal::Group, k));
     }
     if is_second(groups, p.groups - 1) {
-        return Step::Refused(7, k);
+        return Err(Failure::Refused(Refusal::Form, k));
     }
     if began_at(groups, p.groups - 1) == p.instructions {
-        return Step::Refused(7, k);
+        return Err(Failure::Refused(Refusal::Form, k));
     }
     second_part(p, k, labels, groups, fields)
 }
 
-// %ENDOFPROGRAM
-pub fn conclude(p: Progress, k: u32, labels: &[u32], groups: &[u64], fields: &mut [u64]) -> Step
+// %ENDOFPROGRAM: a whole sheet.
+pub fn conclude(
+    p: Progress,
+    k: u32,
+    labels: &[u32],
+    groups: &[u64],
+    fields: &mut [u64],
+) -> Result<(), Failure>
     requires { FewCounts p }
     ensures { Concludes p k labels.now groups.now fields.old result fields.new }
 {
-    if p.stage == 0 {
-        return Step::Refused(7, k);
+    if p.stage == Stage::Nothing {
+        return Err(Failure::Refused(Refusal::Form, k));
     }
     if p.groups != 0 {
-        return Step::Refused(13, statement_at(groups, 0));
+        return Err(Failure::Refused(Refusal::Group, statement_at(groups, 0)));
     }
     match lead_jumps(fields, p.fields, labels, p.labels, p.instructions + 1) {
-        Led::All => Step::Given,
-        Led::Unset(s) => Step::Refused(9, s),
-        Led::Unfit => Step::Unfit,
+        Ok(()) => Ok(()),
+        Err(fields_put::Failure::Unset(s)) => Err(Failure::Refused(Refusal::Label, s)),
+        Err(fields_put::Failure::Unfit) => Err(Failure::Unfit),
     }
 }

@@ -14,8 +14,8 @@ returns-then-p-size c = λ q ns ls i h few is good. over_orders h c.args.k i _ _
 pub returns-then-too_deep : goal.returns-then-too_deep
 returns-then-too_deep c = λ q ns ls i h few is good. over_levels h c.args.k i _ _ is _ c.size_of-size.ensures c.if-size-gt-MOST_TEMPORARIES.false (let n = c.if-size-gt-MOST_COMPARISONS.false in omega (arith, n)) _ c.too_deep.ensures c.if-too_deep.true
 
-pub returns-in_default : goal.returns-in_default
-returns-in_default c = λ q ns ls i h few is good. fields_fit h c.args.k i _ _ is _ c.size_of-size.ensures good few c.if-size-gt-MOST_TEMPORARIES.false (let n = c.if-size-gt-MOST_COMPARISONS.false in omega (arith, n)) (let n = c.if-p-size.false in omega (arith, n)) _ c.too_deep.ensures c.if-too_deep.false _ _ c.append.ensures.told c.append.ensures.kept c.in_default.is
+pub returns-in_err-n : goal.returns-in_err-n
+returns-in_err-n c = λ q ns ls i h few is good. fields_fit h c.args.k i _ _ is _ c.size_of-size.ensures good few c.if-size-gt-MOST_TEMPORARIES.false (let n = c.if-size-gt-MOST_COMPARISONS.false in omega (arith, n)) (let n = c.if-p-size.false in omega (arith, n)) _ c.too_deep.ensures c.if-too_deep.false _ _ c.append.ensures.told c.append.ensures.kept c.in_err-n.was
 
 pub returns : goal.returns
-returns c = λ q ns ls i h few is good. comes_placed h c.args.k i _ _ is _ c.size_of-size.ensures good few c.if-size-gt-MOST_TEMPORARIES.false (let n = c.if-size-gt-MOST_COMPARISONS.false in omega (arith, n)) (let n = c.if-p-size.false in omega (arith, n)) _ c.too_deep.ensures c.if-too_deep.false _ _ c.append.ensures.told c.append.ensures.kept _ c.in-Fields.is _ _ c.open_group-count.ensures
+returns c = λ q ns ls i h few is good. comes_placed h c.args.k i _ _ is _ c.size_of-size.ensures good few c.if-size-gt-MOST_TEMPORARIES.false (let n = c.if-size-gt-MOST_COMPARISONS.false in omega (arith, n)) (let n = c.if-p-size.false in omega (arith, n)) _ c.too_deep.ensures c.if-too_deep.false _ _ c.append.ensures.told c.append.ensures.kept _ c.in_ok-n.was _ _ c.open_group-count.ensures
