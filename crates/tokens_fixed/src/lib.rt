@@ -24,7 +24,7 @@ pub enum One {
 }
 
 // "always taking the longest of BEGIN ENDOFPROGRAM INTEGER IF THEN ELSE", of START and FINISH, and of AND and OR. Keyword letters are
-// small in cells.
+// small in cells. No loop over a table of them: a function that names a table stores all of it on its stack at each call.
 pub fn keyword_at(cells: &[u8], at: usize) -> Result<One, Refusal>
     ensures { Is cells.now at result (keyword_at (drop at cells.now)) }
 {
