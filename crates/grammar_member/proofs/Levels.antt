@@ -27,7 +27,7 @@ use Rattle.grammar_output.specs.Internal.{written, insert_at}
 use Rattle.grammar_member.specs.declared.Reading.{Reading}
 use Rattle.grammar_member.specs.Internal.{code, joining_of, word_behind, go_on, top_of, last_of, last_place}
 use Rattle.grammar_member.specs.Internal.{first, behind, joint_of, add, fields_before}
-use Rattle.grammar_member.specs.Internal.{Frame, resumed, beneath, Kept, begun_at, top_by, last_by, outward_from, Onward, Wanted, Reached}
+use Rattle.grammar_member.specs.Internal.{Frame, resumed, beneath, Kept, begun_at, top_by, last_by, outward_from, Wanted, Reached}
 use Rattle.grammar_member.proofs.Runs.{insert_behind, add_fields, add_last, add_top, join_top, last_within}
 use Rattle.grammar_comparison.proofs.Relations.{opens_inside}
 use Rattle.grammar_member.proofs.Words.{joining_again, code_few, go_more, go_stop, top_by_law, last_by_law}
@@ -465,12 +465,6 @@ module _ (toks : Tokens) where
     reached_last r =
         let size = sym (fields_length 0 s.out fs) ∙ ap length r.fields ∙ length-append (beneath base r.frames) (condition_fields r.condition) in
         omega (arith, size, r.last_of_law, last_within r.condition)
-
--- what was read from a later place on
-pub onward_later : (n : ℕ) (s t : Reading) (r : Option Reading) → s.at ≤ t.at → s.out ≤ t.out
-    → t.depth + t.out + s.at ≤ t.at + s.depth + s.out → Onward n t r → Onward n s r
-onward_later n s t (Some u) h g f o = (omega (arith, o, h), o.1, omega (arith, o, g), omega (arith, o, f))
-onward_later n s t None h g f o = tt
 
 -- the brackets before a member, from reading s on
 pub record Opening (toks : Tokens) (stack₀ : List ℕ) (s : Reading) (stack : List ℕ) (t : Reading) : Type 0 where

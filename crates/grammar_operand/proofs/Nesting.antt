@@ -6,7 +6,7 @@ use mathlib.Core.List.{List, [], ◌∷◌, ◌++◌}
 use native.Mathlib.Omega.{arith}
 use lib.ListN.{length, get_or, set}
 use lib.Seq.{get_or-set_same, get_or-set_other}
-use Rattle.std.specs.Prelude.{Option, Some, None}
+use Rattle.std.specs.Prelude.{Some, None}
 use Rattle.base.specs.Choice.{pick}
 use Rattle.sheet.specs.declared.Operator.{Operator}
 use Rattle.sheet.specs.declared.Field.{Field}
@@ -30,7 +30,7 @@ use Rattle.grammar_lead.specs.declared.Opened.{Opened}
 use Rattle.grammar_lead.specs.Internal.{OpenedAs}
 use Rattle.grammar_operand.specs.declared.Reading.{Reading}
 use Rattle.grammar_operand.specs.Internal.{bracketed_by, links_pass, operand_pass, WithinPlaces}
-use Rattle.grammar_operand.specs.Internal.{Frame, resumed, Kept, begun_at, Onward, Reached}
+use Rattle.grammar_operand.specs.Internal.{Frame, resumed, Kept, begun_at, Reached}
 use Rattle.grammar_operand.proofs.Operands.{plain_operand, open_operand, no_operand}
 use Rattle.grammar_operand.proofs.Links.{links_stop, links_more, found_then, missing_then}
 use Rattle.grammar_operand.proofs.Linking.{chain_agrees}
@@ -344,9 +344,3 @@ small_places b p h w =
       middle_small = omega (arith, h, w.middle_within);
       high_small = omega (arith, h, w.high_within);
     }
-
--- what was read from a later place on
-pub onward_later : (n : ℕ) (s t : Reading) (r : Option Reading) → s.at ≤ t.at → s.out ≤ t.out
-    → t.depth + t.out + s.at ≤ t.at + s.depth + s.out → Onward n t r → Onward n s r
-onward_later n s t (Some u) h g f o = (omega (arith, o, h), o.1, omega (arith, o, g), omega (arith, o, f))
-onward_later n s t None h g f o = tt

@@ -1,8 +1,7 @@
-use Prim.Native.Nat.{◌+◌}
 use native.Mathlib.Omega.{arith}
 use Rattle.std.specs.Prelude.{Some}
 use Rattle.grammar_member.proofs.Words.{last_by_within}
-use Rattle.grammar_member.proofs.Levels.{word_turn, onward_later}
+use Rattle.grammar_member.proofs.Levels.{word_turn}
 use Rattle.grammar_member.proofs.joined.Goals as goal
 
 pub insert-requires : goal.insert-requires
@@ -12,12 +11,7 @@ insert-requires c =
       rw c.last_by.ensures (last_by_within (Some c.args.w) c.args.s p.0.deeply.begins p.0.ends),
     )
 
-pub returns : goal.returns
-returns c =
-    let a = c.args in
-    let p = c.requires in record {
-      moved = onward_later a.tokens.now.count a.s
-          (record { at = a.s.at + 1; out = a.s.out + 1; depth = a.s.depth; joined = Some a.w; start = a.s.start; top = Some a.w; last = a.s.start }) c.member.result (omega arith) (omega arith) (omega arith) c.member.ensures.moved;
-      read = λ base all e r. c.member.ensures.read base all
-          (word_turn _ _ _ _ _ _ _ _ _ _ e p.1 (rw c.last_by.ensures at c.insert.ensures) r);
-    }
+pub returns-clause-read : goal.returns-clause-read
+returns-clause-read c =
+    λ base all e r. c.member.ensures.read base all
+    (word_turn _ _ _ _ _ _ _ _ _ _ e c.requires.1 (rw c.last_by.ensures at c.insert.ensures) r)

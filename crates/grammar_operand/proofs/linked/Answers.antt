@@ -1,7 +1,6 @@
-use Prim.Native.Nat.{◌+◌}
 use native.Mathlib.Omega.{arith}
 use Rattle.grammar_operand.proofs.Links.{place_within, after_within}
-use Rattle.grammar_operand.proofs.Nesting.{onward_later, link_turn}
+use Rattle.grammar_operand.proofs.Nesting.{link_turn}
 use Rattle.grammar_operand.proofs.linked.Goals as goal
 
 pub insert-requires : goal.insert-requires
@@ -21,13 +20,9 @@ operand-requires c =
       within = rw c.places_after.ensures (after_within _ _ _ c.args.o c.requires.0.within (omega arith));
     }
 
-pub returns : goal.returns
-returns c =
-    record {
-      moved = onward_later c.args.tokens.now.count c.args.s
-          (record { at = c.args.s.at + 1; out = c.args.s.out + 1; depth = c.args.s.depth; places = c.places_after.result }) c.operand.result (omega arith) (omega arith) (omega arith) c.operand.ensures.moved;
-      read = λ all e r. c.operand.ensures.read all
-          (rw c.places_after.ensures
-          (link_turn _ _ _ _ _ _ _ c.requires.1 e (rw c.place_for.ensures at c.insert.ensures)
-          (after_within _ _ _ c.args.o c.requires.0.within (omega arith)) r));
-    }
+pub returns-clause-read : goal.returns-clause-read
+returns-clause-read c =
+    λ all e r. c.operand.ensures.read all
+    (rw c.places_after.ensures
+    (link_turn _ _ _ _ _ _ _ c.requires.1 e (rw c.place_for.ensures at c.insert.ensures)
+    (after_within _ _ _ c.args.o c.requires.0.within (omega arith)) r))
