@@ -4,6 +4,8 @@
 
 // What the machine holds beside the words of the frame: the accumulator, the next order, the count of numbers sent, and the
 // ending: 0 none, 1 to 4 that fault, 20 stopped.
+// The ending is a number: a state's bytes carry document 01's number of it, and the definitions of specs/ speak of any number that a
+// state may hold.
 #[derive(Clone, Copy)]
 pub struct Registers {
     pub acc: u32,

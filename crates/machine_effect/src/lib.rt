@@ -8,11 +8,11 @@ ghost use Rattle.word_arithmetic.specs.Answers.{outcome};
 ghost use Rattle.machine.specs.Machine.{go_to, end_with, operate};
 ghost use Rattle.machine_effect.specs.Internal.{moved, settled, Sends};
 
-use base::{put_word, word_at};
+use base::{at, put};
 use machine::{OUTPUT_FULL, Registers};
 use order::Operation;
 use word::Relation;
-use word_arithmetic::Answer;
+use word_arithmetic::Fault;
 
 pub fn advance(a: u32, behind: usize, r: Registers) -> Registers
     ensures { result ≡ moved a behind r }
@@ -20,8 +20,7 @@ pub fn advance(a: u32, behind: usize, r: Registers) -> Registers
     Registers {
         acc: a,
         next: behind,
-        sent: r.sent,
-        ending: r.ending,
+        ..r
     }
 }
 
@@ -29,54 +28,45 @@ pub fn go_to(a: u32, r: Registers) -> Registers
     ensures { result ≡ go_to a r }
 {
     Registers {
-        acc: r.acc,
         next: a as usize,
-        sent: r.sent,
-        ending: r.ending,
+        ..r
     }
 }
 
 pub fn end_with(ending: u32, r: Registers) -> Registers
     ensures { result ≡ end_with ending r }
 {
-    Registers {
-        acc: r.acc,
-        next: r.next,
-        sent: r.sent,
-        ending,
-    }
+    Registers { ending, ..r }
 }
 
 // ---- the orders' effects
 
 // What an operation gives, of the accumulator a and the operand x.
-fn result_of(f: Operation, a: u32, x: u32) -> Answer
+fn result_of(f: Operation, a: u32, x: u32) -> Result<u32, Fault>
     ensures { outcome result ≡ operate f a x }
 {
     match f {
-        Operation::Load => Answer::Value(x),
-        Operation::Add => Answer::Value(word_arithmetic::add(a, x)),
-        Operation::Sub => Answer::Value(word_arithmetic::sub(a, x)),
-        Operation::Mlt => Answer::Value(word_arithmetic::mul(a, x)),
+        Operation::Load => Ok(x),
+        Operation::Add => Ok(word_arithmetic::add(a, x)),
+        Operation::Sub => Ok(word_arithmetic::sub(a, x)),
+        Operation::Mlt => Ok(word_arithmetic::mul(a, x)),
         Operation::Div => word_arithmetic::div(a, x),
         Operation::Exp => word_arithmetic::pow(a, x),
         Operation::Shl => word_arithmetic::shl(a, x),
         Operation::Shr => word_arithmetic::shr(a, x),
-        Operation::And => Answer::Value(word_arithmetic::bit_and(a, x)),
-        Operation::Or => Answer::Value(word_arithmetic::bit_or(a, x)),
-        Operation::Xor => Answer::Value(word_arithmetic::bit_xor(a, x)),
-        Operation::Cmp => Answer::Value(word_arithmetic::cmp(a, x)),
+        Operation::And => Ok(word_arithmetic::bit_and(a, x)),
+        Operation::Or => Ok(word_arithmetic::bit_or(a, x)),
+        Operation::Xor => Ok(word_arithmetic::bit_xor(a, x)),
+        Operation::Cmp => Ok(word_arithmetic::cmp(a, x)),
     }
 }
 
-fn settle(answer: Answer, behind: usize, r: Registers) -> Registers
+fn settle(answer: Result<u32, Fault>, behind: usize, r: Registers) -> Registers
     ensures { result ≡ settled (outcome answer) behind r }
 {
     match answer {
-        Answer::Value(a) => advance(a, behind, r),
-        Answer::ZeroDivisor => end_with(1, r),
-        Answer::NegativeExponent => end_with(2, r),
-        Answer::ShiftCount => end_with(3, r),
+        Ok(a) => advance(a, behind, r),
+        Err(fault) => end_with(fault.number(), r),
     }
 }
 
@@ -89,14 +79,14 @@ pub fn on_number(f: Operation, x: u32, behind: usize, r: Registers) -> Registers
 pub fn on_word(f: Operation, words: &[u32], w: u32, behind: usize, r: Registers) -> Registers
     ensures { result ≡ settled (operate f r.acc (get_or words.now w 0)) behind r }
 {
-    let held = word_at(words, w as usize);
+    let held = at(words, w as usize, 0);
     settle(result_of(f, r.acc, held), behind, r)
 }
 
 pub fn store(words: &mut [u32], w: u32, a: u32)
     ensures { words.new ≡ set words.old w a }
 {
-    put_word(words, w as usize, a);
+    put(words, w as usize, a);
 }
 
 pub fn branch(relation: Relation, a: u32, behind: usize, r: Registers) -> Registers
@@ -114,17 +104,12 @@ pub fn send(output: &mut [u8], behind: usize, r: Registers) -> Registers
 {
     let sent = r.sent;
     if sent < (output.len() / 4) as u64 {
-        let a = r.acc;
-        let at = 4 * sent as usize;
-        output[at] = (a / 16777216) as u8;
-        output[at + 1] = (a / 65536 % 256) as u8;
-        output[at + 2] = (a / 256 % 256) as u8;
-        output[at + 3] = (a % 256) as u8;
+        let start = 4 * sent as usize;
+        output[start..start + 4].copy_from_slice(&r.acc.to_be_bytes());
         return Registers {
-            acc: a,
             next: behind,
             sent: sent + 1,
-            ending: r.ending,
+            ..r
         };
     }
     end_with(OUTPUT_FULL, r)

@@ -188,9 +188,11 @@ module _ (os : List Order) (budget : ℕ) (r₀ : Registers) (ws₀ out₀ : Lis
       → budget ≤ steps
       → n ≡ fault_of (next_effect os (machine r ws out))
       → s ≡ end_with n r
-      → ran steps (machine s ws out) ≡ run os budget (machine r₀ ws₀ out₀)
+      → ran budget (machine s ws out) ≡ run os budget (machine r₀ ws₀ out₀)
   out_of_budget_law n s l h e i =
-      rw (i, e)
+      let whole : budget ≡ steps = omega (arith, l.within) in
+      ap (λ k. ran k (machine s ws out)) whole
+      ∙ rw (i, e)
       (ap (λ k. ran k (machine (end_with (fault_of (next_effect os (machine r ws out))) r) ws out)) (sym (add-zero steps))
       ∙ sym (ap (more steps) (at_the_end (next_effect os (machine r ws out)) l.going refl))
       ∙ ap (λ k. more steps (run os k (machine r ws out))) (spent steps budget l.within h)

@@ -28,8 +28,7 @@ pub fn run(orders: &[u64], words: &mut [u32], output: &mut [u8], r: Registers, b
         };
     }
     let mut state = r;
-    let mut steps: u32 = 0;
-    while steps < budget {
+    for steps in 0..budget {
         state = step(orders, words, output, state);
         let ending = state.ending;
         if ending != 0 {
@@ -44,10 +43,9 @@ pub fn run(orders: &[u64], words: &mut [u32], output: &mut [u8], r: Registers, b
                 registers: state,
             };
         }
-        steps += 1;
     }
     Ran {
-        steps,
+        steps: budget,
         registers: end_with(fault_ahead(orders, words, output, state), state),
     }
 }

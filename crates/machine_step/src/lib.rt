@@ -2,7 +2,7 @@
 // specs/Memory.antt); a place outside it, and a number that stands for no order, count as STOP.
 #![tactic(auto)]
 
-ghost use Rattle.std.specs.Prelude.{◌≡◌, ◌/◌, length, nat_lt, slice_index};
+ghost use Rattle.std.specs.Prelude.{◌≡◌, ◌/◌, length, nat_lt};
 ghost use Rattle.base.specs.Choice.{pick};
 ghost use Rattle.word_arithmetic.specs.Answers.{outcome};
 ghost use Rattle.order.specs.Memory.{order_of, orders_in};
@@ -10,24 +10,12 @@ ghost use Rattle.machine.specs.Machine.{machine, next_effect};
 ghost use Rattle.machine.specs.Internal.{stepped, fault_of};
 ghost use Rattle.machine_step.specs.Internal.{fault_in, carried};
 
-use base::word_at;
+use base::at;
 use machine::{OUTPUT_FULL, Registers, STOPPED};
 use machine_effect::{advance, branch, end_with, go_to, on_number, on_word, send, store};
 use order::Operation;
 use word::Relation;
-use word_arithmetic::Answer;
-
-// ---- reading the array
-
-// The number of the order at a place.
-fn fetch(orders: &[u64], place: usize) -> u64
-    ensures { result ≡ slice_index orders.now place }
-{
-    if place < orders.len() {
-        return orders[place];
-    }
-    0
-}
+use word_arithmetic::Fault;
 
 // ---- an order carried out
 
@@ -98,7 +86,7 @@ pub fn step(orders: &[u64], words: &mut [u32], output: &mut [u8], r: Registers) 
         (machine r words.old output.old) }
 {
     let place = r.next;
-    let w = fetch(orders, place);
+    let w = at(orders, place, 0);
     carry_out(
         (w / 4294967296) as u32,
         (w % 4294967296) as u32,
@@ -111,14 +99,12 @@ pub fn step(orders: &[u64], words: &mut [u32], output: &mut [u8], r: Registers) 
 
 // ---- a fault met with no budget left
 
-fn fault_of(answer: Answer) -> u32
+fn fault_of(answer: Result<u32, Fault>) -> u32
     ensures { result ≡ fault_in (outcome answer) }
 {
     match answer {
-        Answer::Value(_) => 0,
-        Answer::ZeroDivisor => 1,
-        Answer::NegativeExponent => 2,
-        Answer::ShiftCount => 3,
+        Ok(_) => 0,
+        Err(fault) => fault.number(),
     }
 }
 
@@ -136,16 +122,16 @@ pub fn fault_ahead(orders: &[u64], words: &[u32], output: &[u8], r: Registers) -
     ensures { result ≡ fault_of
         (next_effect (orders_in orders.now) (machine r words.now output.now)) }
 {
-    let w = fetch(orders, r.next);
+    let w = at(orders, r.next, 0);
     let number = (w / 4294967296) as u32;
     let v = (w % 4294967296) as u32;
     let a = r.acc;
     match number {
         1 => full(output, r),
-        16 => fault_of(word_arithmetic::div(a, word_at(words, v as usize))),
-        17 => fault_of(word_arithmetic::pow(a, word_at(words, v as usize))),
-        18 => fault_of(word_arithmetic::shl(a, word_at(words, v as usize))),
-        19 => fault_of(word_arithmetic::shr(a, word_at(words, v as usize))),
+        16 => fault_of(word_arithmetic::div(a, at(words, v as usize, 0))),
+        17 => fault_of(word_arithmetic::pow(a, at(words, v as usize, 0))),
+        18 => fault_of(word_arithmetic::shl(a, at(words, v as usize, 0))),
+        19 => fault_of(word_arithmetic::shr(a, at(words, v as usize, 0))),
         28 => fault_of(word_arithmetic::div(a, v)),
         29 => fault_of(word_arithmetic::pow(a, v)),
         30 => fault_of(word_arithmetic::shl(a, v)),

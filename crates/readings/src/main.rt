@@ -3,7 +3,7 @@
 #![tactic(auto)]
 
 use std::io::{self, Print};
-use word_arithmetic::Answer;
+use word_arithmetic::Fault;
 
 fn main(rt: HostRuntime) -> io::Result<()> {
     starred(&rt)?;
@@ -14,15 +14,11 @@ fn main(rt: HostRuntime) -> io::Result<()> {
 
 fn starred<R: Print>(rt: &R) -> io::Result<()> {
     show(rt, b"-7/2", negated(word_arithmetic::div(7, 2)))?;
-    show(
-        rt,
-        b"2147483647+1",
-        Answer::Value(word_arithmetic::add(2147483647, 1)),
-    )?;
+    show(rt, b"2147483647+1", Ok(word_arithmetic::add(2147483647, 1)))?;
     show(
         rt,
         b"-(\\2147483647)",
-        negated(Answer::Value(word_arithmetic::bit_not(2147483647))),
+        negated(Ok(word_arithmetic::bit_not(2147483647))),
     )?;
     show(rt, b"0**0", word_arithmetic::pow(0, 0))?;
     show(rt, b"2**31", word_arithmetic::pow(2, 31))?;
@@ -33,7 +29,7 @@ fn starred<R: Print>(rt: &R) -> io::Result<()> {
         word_arithmetic::shr(word_arithmetic::bit_not(0), 31),
     )?;
     show(rt, b"1/3*3", times(word_arithmetic::div(1, 3), 3))?;
-    show(rt, b"6!!3", Answer::Value(word_arithmetic::bit_xor(6, 3)))?;
+    show(rt, b"6!!3", Ok(word_arithmetic::bit_xor(6, 3)))?;
     show(rt, b"-2**2", negated(word_arithmetic::pow(2, 2)))
 }
 
@@ -99,50 +95,35 @@ fn comparisons<R: Print>(rt: &R) -> io::Result<()> {
     show(
         rt,
         b"2147483647 against \\2147483647",
-        Answer::Value(word_arithmetic::cmp(2147483647, least)),
+        Ok(word_arithmetic::cmp(2147483647, least)),
     )?;
     show(
         rt,
         b"\\2147483647 against 2147483647",
-        Answer::Value(word_arithmetic::cmp(least, 2147483647)),
+        Ok(word_arithmetic::cmp(least, 2147483647)),
     )?;
-    show(
-        rt,
-        b"7 against 7",
-        Answer::Value(word_arithmetic::cmp(7, 7)),
-    )
+    show(rt, b"7 against 7", Ok(word_arithmetic::cmp(7, 7)))
 }
 
-fn negated(a: Answer) -> Answer {
-    match a {
-        Answer::Value(w) => Answer::Value(word_arithmetic::neg(w)),
-        _ => a,
-    }
+fn negated(a: Result<u32, Fault>) -> Result<u32, Fault> {
+    a.map(word_arithmetic::neg)
 }
 
-fn times(a: Answer, factor: u32) -> Answer {
-    match a {
-        Answer::Value(w) => Answer::Value(word_arithmetic::mul(w, factor)),
-        _ => a,
-    }
+fn times(a: Result<u32, Fault>, factor: u32) -> Result<u32, Fault> {
+    a.map(|w| word_arithmetic::mul(w, factor))
 }
 
 // A line: the expression, and the word that it gives or the fault that it meets.
-fn show<R: Print>(rt: &R, expression: &[u8], a: Answer) -> io::Result<()> {
+fn show<R: Print>(rt: &R, expression: &[u8], a: Result<u32, Fault>) -> io::Result<()> {
     rt.write_all(expression)?;
     match a {
-        Answer::Value(w) => {
+        Ok(w) => {
             rt.write_all(b" is ")?;
             print_word(rt, w)?;
         }
-        Answer::ZeroDivisor => {
-            rt.write_all(b" faults 1")?;
-        }
-        Answer::NegativeExponent => {
-            rt.write_all(b" faults 2")?;
-        }
-        Answer::ShiftCount => {
-            rt.write_all(b" faults 3")?;
+        Err(fault) => {
+            let number = fault.number();
+            print!(rt; " faults {number}")?;
         }
     }
     rt.write_all(b"\n")

@@ -1,20 +1,13 @@
 -- What stands at a place of an array of fields.
-use Prim.Native.Nat.{ℕ, suc, ◌-◌, ◌≤◌, ◌<◌}
+use Prim.Native.Nat.{ℕ, ◌-◌, ◌≤◌}
 use mathlib.Core.Path.{◌≡◌, refl, sym, ap, ◌∙◌}
-use mathlib.Core.List.{List, [], ◌∷◌, ◌++◌, map}
+use mathlib.Core.List.{List, [], ◌∷◌, ◌++◌}
 use native.Mathlib.Omega.{arith}
-use lib.ListN.{length, get_or, drop, length-append, length-map, length-drop}
-use lib.Seq.{drop-cons}
+use lib.ListN.{length, drop, length-append, length-map, length-drop}
 use Rattle.sheet.specs.declared.Field.{Field}
 use Rattle.sheet_field.specs.Memory.{field_in, fields_at}
-use Rattle.translate_condition.specs.declared.Head.{Head}
-use Rattle.translate_condition.specs.declared.Head.TheVariants.{Compare, Run, Missing}
-use Rattle.translate_condition.specs.Internal.{head_inside}
 
 module _ (fs : List ℕ) where
-  pub fields_inside : (at : ℕ) → at < length fs → fields_at at fs ≡ field_in (get_or fs at 0) ∷ fields_at (suc at) fs
-  fields_inside at h = ap (map field_in) (drop-cons fs at 0 h)
-
   pub fields_length : (at : ℕ) → length (fields_at at fs) ≡ length fs - at
   fields_length at = length-map (drop at fs) field_in ∙ length-drop at fs
 
@@ -30,8 +23,3 @@ module _ (fs : List ℕ) where
   not_longer at xs l e =
       let n = sym (fields_length at) ∙ ap length e ∙ length-append xs l in
       omega (arith, n)
-
-pub head_inside_law : (n at : ℕ) → at < n → (x : Head) → head_inside n at x
-head_inside_law n at h (Compare s) = h
-head_inside_law n at h (Run w) = h
-head_inside_law n at h Missing = tt

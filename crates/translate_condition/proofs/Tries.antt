@@ -2,6 +2,7 @@
 use Prim.Native.Nat.{ℕ, ◌+◌, ◌≤◌, ◌<◌}
 use mathlib.Core.Path.{◌≡◌, refl, sym, ap, ap₂, subst, ◌∙◌}
 use mathlib.Core.Bool.{true, false}
+use Rattle.std.specs.Prelude.{None, Some}
 use mathlib.Core.List.{List, [], ◌∷◌, ◌++◌, map, append_assoc}
 use native.Mathlib.Omega.{arith}
 use native.Mathlib.Nat.{add-zero}
@@ -29,10 +30,9 @@ use Rattle.translate_expression.proofs.Turns.{puts_more, fields_behind}
 use Rattle.translate_size.specs.declared.Asked.{Asked}
 use Rattle.translate_size.specs.Answers.{capped}
 use Rattle.translate_size.specs.Internal.{Trying as Sized}
-use Rattle.translate_condition.specs.declared.Head.{Head}
-use Rattle.translate_condition.specs.declared.Head.TheVariants.{Compare, Run, Missing}
+use Rattle.translate_condition.specs.declared.Head.TheVariants.{Compare, Run}
 use Rattle.translate_condition.specs.declared.Exits.{Exits}
-use Rattle.translate_condition.specs.Internal.{first_head, head_inside, first_exits, cond_of, Small, Comparing, Trying, Asking}
+use Rattle.translate_condition.specs.Internal.{first_head, first_exits, cond_of, Small, Comparing, Trying, Asking}
 use Rattle.translate_condition.proofs.Looking.{not_longer}
 
 -- ---- orders put
@@ -95,7 +95,7 @@ module _ (v i : ℕ) (x : Exits) (a b : Condition) where
 
 module _ (fs : List ℕ) (at word i : ℕ) (x : Exits) (out : List ℕ) where
   -- no condition
-  pub none_tried : Missing ≡ first_head (fields_at at fs) → Trying fs at word i x out (record { at = at; i = i }) out
+  pub none_tried : None ≡ first_head (fields_at at fs) → Trying fs at word i x out (record { at = at; i = i }) out
   unfolding condition_fields
   none_tried known = record { on = omega arith; whole = λ v c l w h small. absurd (no_condition_law c l h) }
     where
@@ -104,7 +104,7 @@ module _ (fs : List ℕ) (at word i : ℕ) (x : Exits) (out : List ℕ) where
       no_condition_law (joins u a b) l h = let z : ◌≡◌ {A = ℕ} 0 1 = cc (known ∙ ap first_head h) in omega arith
 
   -- a comparison, whose branch asks for this relation and leads there
-  module _ (s : Relation) (known : Compare s ≡ first_head (fields_at at fs)) (asks : Relation) (to : ℕ) (r : Spot) (after : List ℕ)
+  module _ (s : Relation) (known : Some (Compare s) ≡ first_head (fields_at at fs)) (asks : Relation) (to : ℕ) (r : Spot) (after : List ℕ)
       (p : Comparing fs (at + 1) word i asks to out r after) where
     compared_whole :
         asks ≡ leaving x.falls s
@@ -131,7 +131,7 @@ module _ (fs : List ℕ) (at word i : ℕ) (x : Exits) (out : List ℕ) where
     unfolding pick
     no_falls f so there = record { on = omega (arith, p.on); whole = compared_whole (rw f so) (rw f there) }
 
-  module _ (u : Joining) (known : Run u ≡ first_head (fields_at at fs)) (n : Asked) (sized : Sized fs (at + 1) n) (next : ℕ)
+  module _ (u : Joining) (known : Some (Run u) ≡ first_head (fields_at at fs)) (n : Asked) (sized : Sized fs (at + 1) n) (next : ℕ)
       (there : i + n.orders < 4294967296 → next ≡ i + n.orders) (e : Exits) (its : e ≡ first_exits u next x) (s : Spot) (m : List ℕ)
       (first : Trying fs (at + 1) word i e out s m) (r : Spot) (after : List ℕ) (rest : Trying fs s.at word s.i x m r after) where
     -- the orders of the two members, as they are where there is room for them
@@ -228,11 +228,3 @@ all_asked fs at word i count yes_at no_at out j m q r after p v c l w h small co
     let to : yes_at ≡ i + asking v c = goes (omega (arith, g, many, tries, conds)) in
     rw (place, to, number) (asked_code v i c no_at))
     (puts_more q done.put)
-
--- ---- what stands at a place stands inside
-
-pub compare_inside : (n at : ℕ) (x : Head) (s : Relation) → x ≡ Compare s → head_inside n at x → at < n
-compare_inside n at x s e h = subst (head_inside n at) e h
-
-pub run_inside : (n at : ℕ) (x : Head) (w : Joining) → x ≡ Run w → head_inside n at x → at < n
-run_inside n at x w e h = subst (head_inside n at) e h

@@ -1,5 +1,5 @@
 -- What the functions do.
-use Rattle.std.specs.Prelude.{ℕ, ◌+◌, ◌≤◌, ◌<◌, ◌≡◌, true, false, List, [], ◌∷◌, ◌++◌, ltb, length}
+use Rattle.std.specs.Prelude.{ℕ, ◌+◌, ◌≤◌, ◌<◌, ◌≡◌, true, false, Option, None, Some, List, [], ◌∷◌, ◌++◌, ltb, length}
 use Rattle.base.specs.Choice.{pick}
 use Rattle.word.specs.declared.Relation.{Relation}
 use Rattle.order.specs.declared.Order.{Order}
@@ -18,35 +18,30 @@ use Rattle.translate_expression.specs.declared.Spot.{Spot}
 use Rattle.translate_expression.specs.Internal.{Puts, Done}
 use Rattle.translate_size.specs.Answers.{capped}
 use Rattle.translate_condition.specs.declared.Head.{Head}
-use Rattle.translate_condition.specs.declared.Head.TheVariants.{Compare as Compares, Run as Joins, Missing}
+use Rattle.translate_condition.specs.declared.Head.TheVariants.{Compare as Compares, Run as Joins}
 use Rattle.translate_condition.specs.declared.Exits.{Exits}
 
 -- ---- fields
 
-abbrev pub head_of : Field → Head
-head_of Else = Missing
-head_of Start = Missing
-head_of Finish = Missing
-head_of If = Missing
-head_of Send = Missing
-head_of Neg = Missing
-head_of Not = Missing
-head_of (Binary o) = Missing
-head_of (Compare r) = Compares r
-head_of (Word w) = Missing
-head_of (Constant n) = Missing
-head_of (Set w) = Missing
-head_of (Goto s) = Missing
-head_of (Run w n) = Joins w
+abbrev pub head_of : Field → Option Head
+head_of Else = None
+head_of Start = None
+head_of Finish = None
+head_of If = None
+head_of Send = None
+head_of Neg = None
+head_of Not = None
+head_of (Binary o) = None
+head_of (Compare r) = Some (Compares r)
+head_of (Word w) = None
+head_of (Constant n) = None
+head_of (Set w) = None
+head_of (Goto s) = None
+head_of (Run w n) = Some (Joins w)
 
-abbrev pub first_head : List Field → Head
-first_head [] = Missing
+abbrev pub first_head : List Field → Option Head
+first_head [] = None
 first_head (f ∷ l) = head_of f
-
-abbrev pub head_inside : ℕ → ℕ → Head → Type 0
-head_inside n at (Compares s) = at < n
-head_inside n at (Joins w) = at < n
-head_inside n at Missing = Unit {0}
 
 -- ---- orders
 

@@ -2,14 +2,14 @@
 // A run's first member is measured before it is put, so that every branch is put with the address where it leads.
 #![tactic(auto)]
 
-ghost use Rattle.std.specs.Prelude.{◌+◌, ◌<◌, ◌≡◌, length};
+ghost use Rattle.std.specs.Prelude.{◌+◌, ◌<◌, ◌≡◌, length, OnSome};
 ghost use Rattle.sheet_field.specs.Memory.{fields_at};
 ghost use Rattle.translate_expression.specs.Internal.{Puts};
-ghost use Rattle.translate_condition.specs.Internal.{head_of, first_head, head_inside, first_exits, cond_of, Comparing, Trying, Asking};
+ghost use Rattle.translate_condition.specs.Internal.{head_of, first_head, first_exits, cond_of, Comparing, Trying, Asking};
 
 use order::Order;
 use sheet::{Field, Joining};
-use sheet_field::{field_at, opposite_of};
+use sheet_field::{field_in, opposite_of};
 use translate_expression::{Spot, put_comparison, put_order};
 use translate_size::trying_size;
 use word::Relation;
@@ -19,7 +19,6 @@ use word::Relation;
 enum Head {
     Compare(Relation),
     Run(Joining),
-    Missing,
 }
 
 // The orders that a yes and a no lead to. One of them is the order behind; `falls` says whether it is that of a yes.
@@ -30,35 +29,22 @@ struct Exits {
     no: u32,
 }
 
-fn head_of(f: Field) -> Head
+fn head_of(f: Field) -> Option<Head>
     ensures { result ≡ head_of f }
 {
     match f {
-        Field::Else => Head::Missing,
-        Field::Start => Head::Missing,
-        Field::Finish => Head::Missing,
-        Field::If => Head::Missing,
-        Field::Send => Head::Missing,
-        Field::Neg => Head::Missing,
-        Field::Not => Head::Missing,
-        Field::Binary(_) => Head::Missing,
-        Field::Compare(s) => Head::Compare(s),
-        Field::Word(_) => Head::Missing,
-        Field::Constant(_) => Head::Missing,
-        Field::Set(_) => Head::Missing,
-        Field::Goto(_) => Head::Missing,
-        Field::Run(w, _) => Head::Run(w),
+        Field::Compare(s) => Some(Head::Compare(s)),
+        Field::Run(w, _) => Some(Head::Run(w)),
+        _ => None,
     }
 }
 
-fn head_at(fields: &[u64], at: usize) -> Head
+fn head_at(fields: &[u64], at: usize) -> Option<Head>
     ensures found { result ≡ first_head (fields_at at fields.now) }
-    ensures inside { head_inside (length fields.now) at result }
+    ensures inside { OnSome result (at < length fields.now) }
 {
-    if at < fields.len() {
-        return head_of(field_at(fields, at));
-    }
-    Head::Missing
+    let w = *fields.get(at)?;
+    head_of(field_in(w))
 }
 
 // The address of the order that is n orders behind a place.
@@ -111,18 +97,18 @@ fn put_condition(fields: &[u64], at: usize, word: u32, out: &mut [u64], i: usize
     ensures { Trying fields.now at word i x out.old result out.new }
 {
     match head_at(fields, at) {
-        Head::Compare(s) => {
+        Some(Head::Compare(s)) => {
             if x.falls {
                 return put_compared(fields, at + 1, word, out, i, opposite_of(s), x.no);
             }
             put_compared(fields, at + 1, word, out, i, s, x.yes)
         }
-        Head::Run(w) => {
+        Some(Head::Run(w)) => {
             let next = behind(i, trying_size(fields, at + 1).orders);
             let first = put_condition(fields, at + 1, word, out, i, first_exits(w, next, x));
             put_condition(fields, first.at, word, out, first.i, x)
         }
-        Head::Missing => Spot { at, i },
+        None => Spot { at, i },
     }
 }
 

@@ -2,6 +2,7 @@
 use Prim.Native.Nat.{ℕ, zero, suc, ◌+◌, ◌*◌, ◌-◌, ◌<◌, ◌≤◌}
 use mathlib.Core.Path.{◌≡◌, refl, sym, ap, subst, ◌∙◌}
 use mathlib.Core.Bool.{Bool, true, false}
+use Rattle.std.specs.Prelude.{Option, None, Some}
 use mathlib.Core.List.{List, [], ◌∷◌, ◌++◌, map, append_assoc}
 use native.Mathlib.Omega.{arith}
 use native.Mathlib.Nat.{add_assoc}
@@ -23,14 +24,12 @@ use Rattle.order.specs.Memory.{order_word}
 use Rattle.translate_expression.specs.declared.Operand.{Operand}
 use Rattle.translate_expression.specs.declared.Operand.TheVariants.{Word as OnWord, Constant as OnConstant}
 use Rattle.translate_expression.specs.declared.Node.{Node}
-use Rattle.translate_expression.specs.declared.Node.TheVariants.{Plain, Unary, Binary, Missing}
-use Rattle.translate_expression.specs.declared.Right.TheVariants.{Plain as PlainRight, WorkedOut}
-use Rattle.translate_expression.specs.declared.Right.{Right}
+use Rattle.translate_expression.specs.declared.Node.TheVariants.{Plain, Unary, Binary}
 use Rattle.translate_expression.specs.declared.Step.{Step}
-use Rattle.translate_expression.specs.declared.Step.TheVariants.{Put, Right as RightStep, Missing as NoStep}
+use Rattle.translate_expression.specs.declared.Step.TheVariants.{Put, Right as RightStep}
 use Rattle.translate_expression.specs.declared.Spot.{Spot}
 use Rattle.translate_expression.specs.Internal.{step_of, right_step, Stepping, Comparing, behind, node_of, first_node, is_operator, right_of, order_on, Puts, Done, Putting, Righting}
-use Rattle.translate_expression.specs.Internal.{Run, Running, Outwards, closing, Operating, node_inside}
+use Rattle.translate_expression.specs.Internal.{Run, Outwards, closing, Operating}
 
 -- ---- fields
 
@@ -49,37 +48,6 @@ fields_behind at fs = rw (add-one at) (fields_behind_suc at fs)
 
 pub first_inside : (at : ℕ) (fs : List ℕ) → at < length fs → first_node (fields_at at fs) ≡ node_of (field_in (get_or fs at 0))
 first_inside at fs h = rw (drop-cons fs at 0 h) refl
-
-pub first_outside : (at : ℕ) (fs : List ℕ) → length fs ≤ at → Missing ≡ first_node (fields_at at fs)
-first_outside zero [] h = refl
-first_outside zero (w ∷ fs) h = absurd (omega arith)
-first_outside (suc at) [] h = refl
-first_outside (suc at) (w ∷ fs) h = first_outside at fs (omega arith)
-
-pub node_inside_law : (n at : ℕ) → at < n → (x : Node) → node_inside n at x
-node_inside_law n at h (Plain x) = h
-node_inside_law n at h (Unary o) = h
-node_inside_law n at h (Binary f) = h
-node_inside_law n at h Missing = tt
-
--- ---- a run of operators
-
-pub run_none : (fs : List ℕ) (at : ℕ) → Running fs at at
-run_none fs at = record { on = omega arith; inside = λ h. absurd (omega arith); operators = λ k g h. absurd (omega arith) }
-
-module _ (fs : List ℕ) (at j : ℕ) (r : Running fs at j) where
-  pub run_more : j < length fs → is_operator (node_of (field_in (get_or fs j 0))) ≡ true → Running fs at (j + 1)
-  run_more h e = record {
-    on = omega (arith, r.on);
-    inside = λ g. omega arith;
-    operators = λ k g i. by_less k j (λ l. r.operators k g l) (λ l. let same : k ≡ j = omega arith in rw (same, first_inside j fs h) e);
-  }
-
-  pub run_stop : j < length fs → is_operator (node_of (field_in (get_or fs j 0))) ≡ false → Run fs at j
-  run_stop h e = record { on = r.on; inside = r.inside; operators = r.operators; stop = rw (first_inside j fs h) e }
-
-  pub run_end : length fs ≤ j → Run fs at j
-  run_end h = record { on = r.on; inside = r.inside; operators = r.operators; stop = ap is_operator (sym (first_outside j fs h)) }
 
 -- ---- orders one behind the other
 
@@ -118,7 +86,7 @@ record IsPlain (e : Expression) (l : List Field) (x : Operand) : Type 0 where
   joins : (o : Operation) (v d : ℕ) (a b : List Order) → a ++ order_on o x ∷ [] ≡ joined o v d (operand e) a b
   past : behind (expression_fields e ++ l) ≡ l
 
-plainly : (e : Expression) (l : List Field) (x : Operand) → PlainRight x ≡ right_of (first_node (expression_fields e ++ l)) → IsPlain e l x
+plainly : (e : Expression) (l : List Field) (x : Operand) → Some x ≡ right_of (first_node (expression_fields e ++ l)) → IsPlain e l x
 unfolding expression_fields code
 plainly (word w) l x h =
     let same : x ≡ OnWord w = cc in
@@ -130,7 +98,7 @@ plainly (negated e) l x h = let z : ◌≡◌ {A = ℕ} 0 1 = cc in absurd (omeg
 plainly (inverted e) l x h = let z : ◌≡◌ {A = ℕ} 0 1 = cc in absurd (omega arith)
 plainly (binary o a b) l x h = let z : ◌≡◌ {A = ℕ} 0 1 = cc in absurd (omega arith)
 
-pub workedly : (e : Expression) (l : List Field) → WorkedOut ≡ right_of (first_node (expression_fields e ++ l)) → operand e ≡ worked_out
+pub workedly : (e : Expression) (l : List Field) → None ≡ right_of (first_node (expression_fields e ++ l)) → operand e ≡ worked_out
 unfolding expression_fields
 workedly (word w) l h = let z : ◌≡◌ {A = ℕ} 0 1 = cc in absurd (omega arith)
 workedly (constant n) l h = let z : ◌≡◌ {A = ℕ} 0 1 = cc in absurd (omega arith)
@@ -138,7 +106,7 @@ workedly (negated e) l h = refl
 workedly (inverted e) l h = refl
 workedly (binary o a b) l h = refl
 
-pub some_node : (e : Expression) (l : List Field) → WorkedOut ≡ right_of (first_node (expression_fields e ++ l)) → is_operator (first_node (expression_fields e ++ l)) ≡ true
+pub some_node : (e : Expression) (l : List Field) → None ≡ right_of (first_node (expression_fields e ++ l)) → is_operator (first_node (expression_fields e ++ l)) ≡ true
 unfolding expression_fields
 some_node (word w) l h = let z : ◌≡◌ {A = ℕ} 0 1 = cc in absurd (omega arith)
 some_node (constant n) l h = let z : ◌≡◌ {A = ℕ} 0 1 = cc in absurd (omega arith)
@@ -151,7 +119,7 @@ some_node (binary o a b) l h = refl
 module _ (fs : List ℕ) (at i : ℕ) (out : List ℕ) (t : ℕ) where
   pub leaf_put :
       (x : Operand)
-      → PlainRight x ≡ right_of (first_node (fields_at at fs))
+      → Some x ≡ right_of (first_node (fields_at at fs))
       → (o : Order)
       → o ≡ order_on Load x
       → (r : ℕ) (after : List ℕ)
@@ -168,7 +136,7 @@ module _ (fs : List ℕ) (at i : ℕ) (out : List ℕ) (t : ℕ) where
   }
 
   pub no_leaf :
-      WorkedOut ≡ right_of (first_node (fields_at at fs))
+      None ≡ right_of (first_node (fields_at at fs))
       → is_operator (first_node (fields_at at fs)) ≡ false
       → Putting fs at t i out (record { at = at; i = i }) out
   no_leaf known none = record {
@@ -185,7 +153,7 @@ module _ (fs : List ℕ) (t : ℕ) (s : Spot) (m : List ℕ) (r : Spot) (after :
   -- the left operand stands; a plain right one
   plain_joined :
       (x : Operand)
-      → PlainRight x ≡ right_of (first_node (fields_at s.at fs))
+      → Some x ≡ right_of (first_node (fields_at s.at fs))
       → r.at ≡ s.at + 1
       → Puts (order_on f x ∷ []) s.i m r.i after
       → Done fs l (joined f v d (operand b) (code v d a) (code v (suc d) b)) i out r after
@@ -198,7 +166,7 @@ module _ (fs : List ℕ) (t : ℕ) (s : Spot) (m : List ℕ) (r : Spot) (after :
 
   -- one that is worked out
   worked_joined :
-      WorkedOut ≡ right_of (first_node (fields_at s.at fs))
+      None ≡ right_of (first_node (fields_at s.at fs))
       → Righting fs s.at f t s.i m r after
       → Done fs l (joined f v d (operand b) (code v d a) (code v (suc d) b)) i out r after
   worked_joined worked right =
@@ -214,22 +182,22 @@ module _ (fs : List ℕ) (t : ℕ) (s : Spot) (m : List ℕ) (r : Spot) (after :
           rw (q, more, ← w) (sym (append_assoc (code v d a) (Store t ∷ code v (suc d) b) (closing f t (t + 1))))
 
   joined_by :
-      (q : Right)
+      (q : Option Operand)
       → q ≡ right_of (first_node (fields_at s.at fs))
       → (step : Step)
       → step ≡ right_step f s.at q
       → Stepping fs step t s m r after
       → Done fs l (joined f v d (operand b) (code v d a) (code v (suc d) b)) i out r after
-  joined_by (PlainRight x) known step e p = let u = p.put (order_on f x) (s.at + 1) e in plain_joined x known u.0 u.1
-  joined_by WorkedOut known step e p = worked_joined known (p.right f e)
+  joined_by (Some x) known step e p = let u = p.put (order_on f x) (s.at + 1) e in plain_joined x known u.0 u.1
+  joined_by None known step e p = worked_joined known (p.right f e)
 
 -- a step goes on
-right_on : (fs : List ℕ) (t : ℕ) (s : Spot) (m : List ℕ) (r : Spot) (after : List ℕ) (f : Operation) (q : Right) (step : Step)
+right_on : (fs : List ℕ) (t : ℕ) (s : Spot) (m : List ℕ) (r : Spot) (after : List ℕ) (f : Operation) (q : Option Operand) (step : Step)
     → step ≡ right_step f s.at q
     → Stepping fs step t s m r after
     → s.at ≤ r.at
-right_on fs t s m r after f (PlainRight x) step e p = let u = p.put (order_on f x) (s.at + 1) e in omega (arith, u.0)
-right_on fs t s m r after f WorkedOut step e p = (p.right f e).on
+right_on fs t s m r after f (Some x) step e p = let u = p.put (order_on f x) (s.at + 1) e in omega (arith, u.0)
+right_on fs t s m r after f None step e p = (p.right f e).on
 
 -- ---- an operator
 
@@ -237,7 +205,7 @@ module _ (fs : List ℕ) (j t : ℕ) (s : Spot) (m : List ℕ) where
   no_turn : (r : Spot) (after : List ℕ) → s.at ≤ r.at → is_operator (first_node (fields_at j fs)) ≡ false → Operating fs j t s m r after
   no_turn r after on none = record { on = on; outwards = λ some i out p. impossible _ some none }
 
-  module _ (o : Order) (known : Unary o ≡ first_node (fields_at j fs)) (r : Spot) (after : List ℕ) (here : r.at ≡ s.at)
+  module _ (o : Order) (known : Some (Unary o) ≡ first_node (fields_at j fs)) (r : Spot) (after : List ℕ) (here : r.at ≡ s.at)
       (put : Puts (o ∷ []) s.i m r.i after) (i : ℕ) (out : List ℕ) (p : Putting fs (j + 1) t i out s m) where
     under : (v d : ℕ) (e : Expression) (l : List Field) (q : Order) → o ≡ q → t ≡ temporary v d → fields_at (j + 1) fs ≡ expression_fields e ++ l
         → t + length (expression_fields e) ≤ 4294967295 → Done fs l (code v d e ++ q ∷ []) i out r after
@@ -261,7 +229,7 @@ module _ (fs : List ℕ) (j t : ℕ) (s : Spot) (m : List ℕ) where
     unary_whole v d (inverted e) l w h b = under v d e l Not (cc (ap first_node h)) w (fields_behind j fs ∙ ap behind h) (omega arith)
     unary_whole v d (binary f a e) l w h b = let z : ◌≡◌ {A = ℕ} 0 1 = cc (ap first_node h) in absurd (omega arith)
 
-  module _ (f : Operation) (known : Binary f ≡ first_node (fields_at j fs)) (step : Step)
+  module _ (f : Operation) (known : Some (Binary f) ≡ first_node (fields_at j fs)) (step : Step)
       (asked : step ≡ right_step f s.at (right_of (first_node (fields_at s.at fs)))) (r : Spot) (after : List ℕ)
       (stepping : Stepping fs step t s m r after) (i : ℕ) (out : List ℕ) (p : Putting fs (j + 1) t i out s m) where
     binary_whole :
@@ -283,23 +251,34 @@ module _ (fs : List ℕ) (j t : ℕ) (s : Spot) (m : List ℕ) where
         subst (λ g. Done fs l (joined g v d (operand e) (code v d a) (code v (suc d) e)) i out r after) same
         (joined_by fs t s m r after f i out v d a e l w (omega (arith, b, two)) done _ refl step asked stepping)
 
-  -- the operator at j by the step that it asks
+  -- the operator at j by the step that it asks, and a place where there is none
   pub operating :
-      (n : Node)
+      (n : Option Node)
       → n ≡ first_node (fields_at j fs)
       → (step : Step)
-      → step ≡ step_of n s.at (right_of (first_node (fields_at s.at fs)))
+      → Some step ≡ step_of n s.at (right_of (first_node (fields_at s.at fs)))
       → (r : Spot) (after : List ℕ)
       → Stepping fs step t s m r after
       → Operating fs j t s m r after
-  operating (Plain x) known step e r after p = no_turn r after (omega (arith, p.stay e)) (sym (ap is_operator known))
-  operating (Unary o) known step e r after p =
-      let u = p.put o s.at e in
+  operating (Some (Plain x)) known step e r after p = let z : ◌≡◌ {A = ℕ} 0 1 = cc in absurd (omega arith)
+  operating (Some (Unary o)) known step e r after p =
+      let u = p.put o s.at (cc) in
       record { on = omega (arith, u.0); outwards = λ some i out q. record { on = omega (arith, q.on, u.0); whole = unary_whole o known r after u.0 u.1 i out q } }
-  operating (Binary f) known step e r after p =
-      let on = right_on fs t s m r after f (right_of (first_node (fields_at s.at fs))) step e p in
-      record { on = on; outwards = λ some i out q. record { on = omega (arith, q.on, on); whole = binary_whole f known step e r after p i out q } }
-  operating Missing known step e r after p = no_turn r after (omega (arith, p.stay e)) (sym (ap is_operator known))
+  operating (Some (Binary f)) known step e r after p =
+      let asked : step ≡ right_step f s.at (right_of (first_node (fields_at s.at fs))) = cc in
+      let on = right_on fs t s m r after f (right_of (first_node (fields_at s.at fs))) step asked p in
+      record { on = on; outwards = λ some i out q. record { on = omega (arith, q.on, on); whole = binary_whole f known step asked r after p i out q } }
+  operating None known step e r after p = let z : ◌≡◌ {A = ℕ} 0 1 = cc in absurd (omega arith)
+
+  pub not_operating :
+      (n : Option Node)
+      → n ≡ first_node (fields_at j fs)
+      → None ≡ step_of n s.at (right_of (first_node (fields_at s.at fs)))
+      → Operating fs j t s m s m
+  not_operating (Some (Plain x)) known e = no_turn s m (omega arith) (sym (ap is_operator known))
+  not_operating (Some (Unary o)) known e = let z : ◌≡◌ {A = ℕ} 0 1 = cc in absurd (omega arith)
+  not_operating (Some (Binary f)) known e = let z : ◌≡◌ {A = ℕ} 0 1 = cc in absurd (omega arith)
+  not_operating None known e = no_turn s m (omega arith) (sym (ap is_operator known))
 
 -- a right operand that is worked out, between the orders around it
 pub right_put :
@@ -367,7 +346,6 @@ step_put fs t s m step o a e r after p = record {
       let same : o ≡ q = cc in
       let here : a ≡ b = cc in
       (here, subst (λ x. Puts (x ∷ []) s.i m r after) same p);
-  stay = λ g. let z : ◌≡◌ {A = ℕ} 0 1 = cc in absurd (omega arith);
   right = λ f g. let z : ◌≡◌ {A = ℕ} 0 1 = cc in absurd (omega arith);
 }
 
@@ -379,15 +357,7 @@ pub step_right :
     → Stepping fs step t s m r after
 step_right fs t s m step f e r after p = record {
   put = λ o a g. let z : ◌≡◌ {A = ℕ} 0 1 = cc in absurd (omega arith);
-  stay = λ g. let z : ◌≡◌ {A = ℕ} 0 1 = cc in absurd (omega arith);
   right = λ g h. let same : f ≡ g = cc in subst (λ x. Righting fs s.at x t s.i m r after) same p;
-}
-
-pub step_missing : (fs : List ℕ) (t : ℕ) (s : Spot) (m : List ℕ) (step : Step) → step ≡ NoStep → Stepping fs step t s m s m
-step_missing fs t s m step e = record {
-  put = λ o a g. let z : ◌≡◌ {A = ℕ} 0 1 = cc in absurd (omega arith);
-  stay = λ g. refl;
-  right = λ g h. let z : ◌≡◌ {A = ℕ} 0 1 = cc in absurd (omega arith);
 }
 
 pub compared :

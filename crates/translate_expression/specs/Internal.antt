@@ -1,5 +1,5 @@
 -- What the private functions do.
-use Rattle.std.specs.Prelude.{ℕ, suc, ◌+◌, ◌≤◌, ◌<◌, ◌≡◌, Bool, true, false, List, [], ◌∷◌, ◌++◌, map, length}
+use Rattle.std.specs.Prelude.{ℕ, suc, ◌+◌, ◌≤◌, ◌<◌, ◌≡◌, Bool, true, false, Option, None, Some, List, [], ◌∷◌, ◌++◌, map, length}
 use Rattle.std.proofs.lemmas.List.Edits.{sets}
 use Rattle.order.specs.declared.Operation.{Operation}
 use Rattle.order.specs.declared.Operation.TheVariants.{Load, Cmp}
@@ -16,11 +16,9 @@ use Rattle.order.specs.Memory.{order_word}
 use Rattle.translate_expression.specs.declared.Operand.{Operand}
 use Rattle.translate_expression.specs.declared.Operand.TheVariants.{Word as OnWord, Constant as OnConstant}
 use Rattle.translate_expression.specs.declared.Node.{Node}
-use Rattle.translate_expression.specs.declared.Node.TheVariants.{Plain, Unary, Binary, Missing}
-use Rattle.translate_expression.specs.declared.Right.{Right}
-use Rattle.translate_expression.specs.declared.Right.TheVariants.{Plain as PlainRight, WorkedOut}
+use Rattle.translate_expression.specs.declared.Node.TheVariants.{Plain, Unary, Binary}
 use Rattle.translate_expression.specs.declared.Step.{Step}
-use Rattle.translate_expression.specs.declared.Step.TheVariants.{Put, Right as RightStep, Missing as NoStep}
+use Rattle.translate_expression.specs.declared.Step.TheVariants.{Put, Right as RightStep}
 use Rattle.translate_expression.specs.declared.Spot.{Spot}
 
 -- ---- nodes
@@ -29,62 +27,52 @@ abbrev pub behind : List Field → List Field
 behind [] = []
 behind (x ∷ l) = l
 
-abbrev pub node_of : Field → Node
-node_of Else = Missing
-node_of Start = Missing
-node_of Finish = Missing
-node_of If = Missing
-node_of Sent = Missing
-node_of Negated = Unary Neg
-node_of Inverted = Unary Not
-node_of (Between o) = Binary (operation o)
-node_of (Compare r) = Missing
-node_of (InWord w) = Plain (OnWord w)
-node_of (Itself n) = Plain (OnConstant n)
-node_of (Set w) = Missing
-node_of (Gone s) = Missing
-node_of (Joined w n) = Missing
+abbrev pub node_of : Field → Option Node
+node_of Else = None
+node_of Start = None
+node_of Finish = None
+node_of If = None
+node_of Sent = None
+node_of Negated = Some (Unary Neg)
+node_of Inverted = Some (Unary Not)
+node_of (Between o) = Some (Binary (operation o))
+node_of (Compare r) = None
+node_of (InWord w) = Some (Plain (OnWord w))
+node_of (Itself n) = Some (Plain (OnConstant n))
+node_of (Set w) = None
+node_of (Gone s) = None
+node_of (Joined w n) = None
 
-abbrev pub first_node : List Field → Node
-first_node [] = Missing
+abbrev pub first_node : List Field → Option Node
+first_node [] = None
 first_node (x ∷ l) = node_of x
 
-abbrev pub is_operator : Node → Bool
-is_operator (Plain x) = false
-is_operator (Unary o) = true
-is_operator (Binary f) = true
-is_operator Missing = false
+abbrev pub is_operator : Option Node → Bool
+is_operator (Some (Plain x)) = false
+is_operator (Some (Unary o)) = true
+is_operator (Some (Binary f)) = true
+is_operator None = false
 
-abbrev pub right_of : Node → Right
-right_of (Plain x) = PlainRight x
-right_of (Unary o) = WorkedOut
-right_of (Binary f) = WorkedOut
-right_of Missing = WorkedOut
-
--- a plain operand stands before the end
-abbrev pub node_inside : ℕ → ℕ → Node → Type 0
-node_inside n at (Plain x) = at < n
-node_inside n at (Unary o) = at < n
-node_inside n at (Binary f) = at < n
-node_inside n at Missing = Unit {0}
-
-abbrev pub right_inside : ℕ → ℕ → Right → Type 0
-right_inside n at (PlainRight x) = at < n
-right_inside n at WorkedOut = Unit {0}
+-- a plain right operand; none where it is worked out
+abbrev pub right_of : Option Node → Option Operand
+right_of (Some (Plain x)) = Some x
+right_of (Some (Unary o)) = None
+right_of (Some (Binary f)) = None
+right_of None = None
 
 abbrev pub order_on : Operation → Operand → Order
 order_on f (OnWord w) = Word f w
 order_on f (OnConstant n) = Number f n
 
-abbrev pub right_step : Operation → ℕ → Right → Step
-right_step f at (PlainRight x) = Put (order_on f x) (at + 1)
-right_step f at WorkedOut = RightStep f
+abbrev pub right_step : Operation → ℕ → Option Operand → Step
+right_step f at (Some x) = Put (order_on f x) (at + 1)
+right_step f at None = RightStep f
 
-abbrev pub step_of : Node → ℕ → Right → Step
-step_of (Plain x) at q = NoStep
-step_of (Unary o) at q = Put o at
-step_of (Binary f) at q = right_step f at q
-step_of Missing at q = NoStep
+abbrev pub step_of : Option Node → ℕ → Option Operand → Option Step
+step_of (Some (Plain x)) at q = None
+step_of (Some (Unary o)) at q = Some (Put o at)
+step_of (Some (Binary f)) at q = Some (right_step f at q)
+step_of None at q = None
 
 -- ---- orders put
 
@@ -146,12 +134,6 @@ pub record Operating (fs : List ℕ) (j word : ℕ) (s : Spot) (m : List ℕ) (r
 abbrev pub Next : ℕ → ℕ → Type 0
 Next w r = w < 4294967295 → r ≡ w + 1
 
--- the same where the run may go on
-pub record Running (fs : List ℕ) (at j : ℕ) : Type 0 where
-  pub on : at ≤ j
-  pub inside : at < j → j ≤ length fs
-  pub operators : (k : ℕ) → at ≤ k → k < j → is_operator (first_node (fields_at k fs)) ≡ true
-
 -- the operators from place j outwards: a loop from j₀ down
 pub record Outwards (fs : List ℕ) (at word : ℕ) (m₀ : List ℕ) (j₀ : ℕ) (s₀ : Spot) (m : List ℕ) (j : ℕ) (s : Spot) : Type 0 where
   pub low : at ≤ j
@@ -162,7 +144,6 @@ pub record Outwards (fs : List ℕ) (at word : ℕ) (m₀ : List ℕ) (j₀ : �
 -- the orders of a step, behind s
 pub record Stepping (fs : List ℕ) (step : Step) (word : ℕ) (s : Spot) (m : List ℕ) (r : Spot) (after : List ℕ) : Type 0 where
   pub put : (o : Order) (a : ℕ) → step ≡ Put o a → (r.at ≡ a) × Puts (o ∷ []) s.i m r.i after
-  pub stay : step ≡ NoStep → r.at ≡ s.at
   pub right : (f : Operation) → step ≡ RightStep f → Righting fs s.at f word s.i m r after
 
 -- whatever two expressions stand at a place, the orders of their comparison are put

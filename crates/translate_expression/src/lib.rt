@@ -3,9 +3,9 @@
 // along the left, and recursion only into right operands that are worked out.
 #![tactic(auto)]
 
-ghost use Rattle.std.specs.Prelude.{◌≡◌, [], ◌∷◌, ◌+◌, ◌<◌, length};
+ghost use Rattle.std.specs.Prelude.{◌≡◌, [], ◌∷◌, ◌+◌, ◌<◌, length, OnSome};
 ghost use Rattle.sheet_field.specs.Memory.{field_in, fields_at};
-ghost use Rattle.translate_expression.specs.Internal.{node_of, first_node, node_inside, right_of, right_inside, is_operator, order_on, step_of, right_step};
+ghost use Rattle.translate_expression.specs.Internal.{node_of, first_node, right_of, is_operator, order_on, step_of, right_step};
 ghost use Rattle.translate_expression.specs.Internal.{Puts, Putting, Run, Leaf, Stepping, Comparing, Next, closing};
 
 use order::{Operation, Order};
@@ -26,14 +26,6 @@ pub enum Node {
     Plain(Operand),
     Unary(Order),
     Binary(Operation),
-    Missing,
-}
-
-// A right operand.
-#[derive(Clone, Copy)]
-pub enum Right {
-    Plain(Operand),
-    WorkedOut,
 }
 
 // What an operator asks: an order, behind which the fields go on at a place; or a right operand to be worked out.
@@ -41,7 +33,6 @@ pub enum Right {
 pub enum Step {
     Put(Order, usize),
     Right(Operation),
-    Missing,
 }
 
 // A place among the fields, and one among the orders.
@@ -51,73 +42,54 @@ pub struct Spot {
     pub i: usize,
 }
 
-fn node_of(f: Field) -> Node
+fn node_of(f: Field) -> Option<Node>
     ensures { result ≡ node_of f }
 {
     match f {
-        Field::Else => Node::Missing,
-        Field::Start => Node::Missing,
-        Field::Finish => Node::Missing,
-        Field::If => Node::Missing,
-        Field::Send => Node::Missing,
-        Field::Neg => Node::Unary(Order::Neg),
-        Field::Not => Node::Unary(Order::Not),
-        Field::Binary(o) => Node::Binary(operation_of(o)),
-        Field::Compare(_) => Node::Missing,
-        Field::Word(w) => Node::Plain(Operand::Word(w)),
-        Field::Constant(n) => Node::Plain(Operand::Constant(n)),
-        Field::Set(_) => Node::Missing,
-        Field::Goto(_) => Node::Missing,
-        Field::Run(_, _) => Node::Missing,
+        Field::Neg => Some(Node::Unary(Order::Neg)),
+        Field::Not => Some(Node::Unary(Order::Not)),
+        Field::Binary(o) => Some(Node::Binary(operation_of(o))),
+        Field::Word(w) => Some(Node::Plain(Operand::Word(w))),
+        Field::Constant(n) => Some(Node::Plain(Operand::Constant(n))),
+        _ => None,
     }
 }
 
-fn node_at(fields: &[u64], at: usize) -> Node
+fn node_at(fields: &[u64], at: usize) -> Option<Node>
     ensures found { result ≡ first_node (fields_at at fields.now) }
-    ensures inside { node_inside (length fields.now) at result }
+    ensures inside { OnSome result (at < length fields.now) }
 {
-    if at < fields.len() {
-        return node_of(field_in(fields[at]));
-    }
-    Node::Missing
+    let w = *fields.get(at)?;
+    node_of(field_in(w))
 }
 
-pub fn right_at(fields: &[u64], at: usize) -> Right
+// The plain right operand at a place; none where it is worked out.
+pub fn right_at(fields: &[u64], at: usize) -> Option<Operand>
     ensures found { result ≡ right_of (first_node (fields_at at fields.now)) }
-    ensures inside { right_inside (length fields.now) at result }
+    ensures inside { OnSome result (at < length fields.now) }
 {
     match node_at(fields, at) {
-        Node::Plain(x) => Right::Plain(x),
-        Node::Unary(_) => Right::WorkedOut,
-        Node::Binary(_) => Right::WorkedOut,
-        Node::Missing => Right::WorkedOut,
+        Some(Node::Plain(x)) => Some(x),
+        _ => None,
     }
 }
 
 fn operates(w: u64) -> bool
     ensures { result ≡ is_operator (node_of (field_in w)) }
 {
-    match node_of(field_in(w)) {
-        Node::Plain(_) => false,
-        Node::Unary(_) => true,
-        Node::Binary(_) => true,
-        Node::Missing => false,
-    }
+    matches!(node_of(field_in(w)), Some(Node::Unary(_) | Node::Binary(_)))
 }
 
 // The place of the first field from `at` on that is no operator.
 pub fn leaf_at(fields: &[u64], at: usize) -> usize
     ensures { Run fields.now at result }
 {
-    let mut j = at;
-    while j < fields.len() {
-        if operates(fields[j]) {
-            j += 1;
-        } else {
+    for j in at..fields.len() {
+        if !operates(fields[j]) {
             return j;
         }
     }
-    j
+    at.max(fields.len())
 }
 
 fn order_on(f: Operation, x: Operand) -> Order
@@ -132,10 +104,7 @@ fn order_on(f: Operation, x: Operand) -> Order
 fn next(w: u32) -> u32
     ensures { Next w result }
 {
-    if w < 4294967295 {
-        return w + 1;
-    }
-    w
+    w.saturating_add(1)
 }
 
 // Puts an order where there is room.
@@ -163,20 +132,19 @@ pub fn right_step(fields: &[u64], f: Operation, at: usize) -> Step
     ensures { result ≡ right_step f at (right_of (first_node (fields_at at fields.now))) }
 {
     match right_at(fields, at) {
-        Right::Plain(x) => Step::Put(order_on(f, x), at + 1),
-        Right::WorkedOut => Step::Right(f),
+        Some(x) => Step::Put(order_on(f, x), at + 1),
+        None => Step::Right(f),
     }
 }
 
 // What the operator at j asks.
-pub fn step_at(fields: &[u64], j: usize, at: usize) -> Step
+pub fn step_at(fields: &[u64], j: usize, at: usize) -> Option<Step>
     ensures { result ≡ step_of (first_node (fields_at j fields.now)) at (right_of (first_node (fields_at at fields.now))) }
 {
-    match node_at(fields, j) {
-        Node::Plain(_) => Step::Missing,
-        Node::Unary(o) => Step::Put(o, at),
-        Node::Binary(f) => right_step(fields, f, at),
-        Node::Missing => Step::Missing,
+    match node_at(fields, j)? {
+        Node::Plain(_) => None,
+        Node::Unary(o) => Some(Step::Put(o, at)),
+        Node::Binary(f) => Some(right_step(fields, f, at)),
     }
 }
 
@@ -185,11 +153,11 @@ fn put_leaf(fields: &[u64], at: usize, out: &mut [u64], i: usize) -> Spot
     ensures { Leaf fields.now at i out.old result out.new }
 {
     match right_at(fields, at) {
-        Right::Plain(x) => Spot {
+        Some(x) => Spot {
             at: at + 1,
             i: put_order(out, i, order_on(Operation::Load, x)),
         },
-        Right::WorkedOut => Spot { at, i },
+        None => Spot { at, i },
     }
 }
 
@@ -198,12 +166,12 @@ fn put_leaf(fields: &[u64], at: usize, out: &mut [u64], i: usize) -> Spot
 pub fn put_expression(fields: &[u64], at: usize, word: u32, out: &mut [u64], i: usize) -> Spot
     ensures { Putting fields.now at word i out.old result out.new }
 {
-    let mut j = leaf_at(fields, at);
-    let mut s = put_leaf(fields, j, out, i);
-    while at < j {
-        j -= 1;
-        let step = step_at(fields, j, s.at);
-        s = put_step(fields, step, word, out, s);
+    let leaf = leaf_at(fields, at);
+    let mut s = put_leaf(fields, leaf, out, i);
+    for j in (at..leaf).rev() {
+        if let Some(step) = step_at(fields, j, s.at) {
+            s = put_step(fields, step, word, out, s);
+        }
     }
     s
 }
@@ -227,7 +195,6 @@ fn put_step(fields: &[u64], step: Step, word: u32, out: &mut [u64], s: Spot) -> 
                 i: put_closing(out, second.i, f, word, kept),
             }
         }
-        Step::Missing => s,
     }
 }
 

@@ -1,6 +1,7 @@
 -- The orders of instructions, one behind the other.
 use Prim.Native.Nat.{ℕ, ◌+◌}
 use mathlib.Core.Path.{◌≡◌, refl, sym, ap, subst, ◌∙◌}
+use Rattle.std.specs.Prelude.{None, Some}
 use mathlib.Core.List.{List, [], ◌∷◌, ◌++◌, append_assoc}
 use native.Mathlib.Omega.{arith}
 use lib.ListN.{length, length-append}
@@ -22,7 +23,7 @@ use Rattle.translate_expression.proofs.Turns.{puts_more, fields_behind}
 use Rattle.translate_condition.specs.Internal.{Small}
 use Rattle.translate_condition.proofs.Looking.{not_longer}
 use Rattle.translate_condition.proofs.Tries.{puts_as, puts_none, small_kept}
-use Rattle.translate_part.specs.declared.Opening.TheVariants.{Last, Goto as Jumps, If as Asks, Missing}
+use Rattle.translate_part.specs.declared.Opening.TheVariants.{Last, Goto as Jumps, If as Asks}
 use Rattle.translate_part.specs.Internal.{first_opening, unled, Ending, Parting, Choosing}
 
 -- ---- an instruction with an expression
@@ -64,7 +65,7 @@ module _ (fs : List ℕ) (word : ℕ) where
 
   module _ (at i : ℕ) (out : List ℕ) where
     -- no instruction
-    pub part_ends : first_opening (fields_at at fs) ≡ Missing → Parting fs at word i out (record { at = at; i = i }) out
+    pub part_ends : first_opening (fields_at at fs) ≡ None → Parting fs at word i out (record { at = at; i = i }) out
     unfolding part_fields part_code
     part_ends none = record { on = omega arith; whole = ended }
       where
@@ -72,7 +73,7 @@ module _ (fs : List ℕ) (word : ℕ) where
             (v : ℕ) (x : Part) (l : List Field)
             → word ≡ temporary v 0
             → fields_at at fs ≡ part_fields x ++ l
-            → first_opening l ≡ Missing
+            → first_opening l ≡ None
             → Small fs word out
             → Done fs l (unled v i x) i out (record { at = at; i = i }) out
         ended v end l w h stops small = record { rest = h; put = puts_none i out }
@@ -87,7 +88,7 @@ module _ (fs : List ℕ) (word : ℕ) where
       simply :
           (v : ℕ) (u : Simple) (x : Part) (l : List Field)
           → word ≡ temporary v 0
-          → first_opening l ≡ Missing
+          → first_opening l ≡ None
           → Small fs word out
           → Done fs (part_fields x ++ l) (simple_code v (λ s. s) u) i out r m
           → Done fs l (unled v i (plain u x)) i out t last
@@ -99,12 +100,12 @@ module _ (fs : List ℕ) (word : ℕ) where
 
       pub last_whole :
           (o : Order)
-          → Last o ≡ first_opening (fields_at at fs)
+          → Some (Last o) ≡ first_opening (fields_at at fs)
           → Ending fs (at + 1) o word i out r m
           → (v : ℕ) (x : Part) (l : List Field)
           → word ≡ temporary v 0
           → fields_at at fs ≡ part_fields x ++ l
-          → first_opening l ≡ Missing
+          → first_opening l ≡ None
           → Small fs word out
           → Done fs l (unled v i x) i out t last
       unfolding part_fields
@@ -125,13 +126,13 @@ module _ (fs : List ℕ) (word : ℕ) where
 
       pub goto_whole :
           (n : ℕ)
-          → Jumps n ≡ first_opening (fields_at at fs)
+          → Some (Jumps n) ≡ first_opening (fields_at at fs)
           → r.at ≡ at + 1
           → Puts (Jump n ∷ []) i out r.i m
           → (v : ℕ) (x : Part) (l : List Field)
           → word ≡ temporary v 0
           → fields_at at fs ≡ part_fields x ++ l
-          → first_opening l ≡ Missing
+          → first_opening l ≡ None
           → Small fs word out
           → Done fs l (unled v i x) i out t last
       unfolding part_fields
@@ -149,12 +150,12 @@ module _ (fs : List ℕ) (word : ℕ) where
       goto_whole n known here p v (either c x y z) l w h stops small = let z : ◌≡◌ {A = ℕ} 0 1 = cc (ap first_opening h) in absurd (omega arith)
 
       pub if_whole :
-          Asks ≡ first_opening (fields_at at fs)
+          Some Asks ≡ first_opening (fields_at at fs)
           → Choosing fs (at + 1) word i out r m
           → (v : ℕ) (x : Part) (l : List Field)
           → word ≡ temporary v 0
           → fields_at at fs ≡ part_fields x ++ l
-          → first_opening l ≡ Missing
+          → first_opening l ≡ None
           → Small fs word out
           → Done fs l (unled v i x) i out t last
       unfolding part_fields part_code size

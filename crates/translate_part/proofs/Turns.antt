@@ -1,6 +1,7 @@
 -- One instruction, and the loop over them.
-use Prim.Native.Nat.{ℕ, ◌+◌, ◌-◌, ◌≤◌, ◌<◌}
+use Prim.Native.Nat.{ℕ, ◌+◌, ◌≤◌, ◌<◌}
 use mathlib.Core.Path.{◌≡◌, refl, sym, subst}
+use Rattle.std.specs.Prelude.{Option, None, Some}
 use mathlib.Core.List.{List, [], ◌∷◌}
 use native.Mathlib.Omega.{arith}
 use lib.ListN.{length}
@@ -9,15 +10,12 @@ use Rattle.order.specs.declared.Order.TheVariants.{Jump}
 use Rattle.sheet_field.specs.Memory.{fields_at}
 use Rattle.translate_expression.specs.declared.Spot.{Spot}
 use Rattle.translate_expression.specs.Internal.{Puts}
-use Rattle.translate_part.specs.declared.Opening.{Opening}
-use Rattle.translate_part.specs.declared.Opening.TheVariants.{Last, Goto as Jumps, If as Asks, Missing}
-use Rattle.translate_part.specs.declared.Turn.{Turn}
-use Rattle.translate_part.specs.declared.Turn.TheVariants.{More, Done as NoMore}
-use Rattle.translate_part.specs.Internal.{first_opening, opening_inside, Ending, Parting, Choosing, Onward, Turning}
+use Rattle.translate_part.specs.declared.Opening.TheVariants.{Last, Goto as Jumps, If as Asks}
+use Rattle.translate_part.specs.Internal.{first_opening, Ending, Parting, Choosing, Onward, Turning}
 use Rattle.translate_part.proofs.Parts.{part_ends, last_whole, goto_whole, if_whole}
 
 module _ (fs : List ℕ) (word : ℕ) (s : Spot) (out : List ℕ) where
-  turned : (r : Spot) (after : List ℕ) → Onward fs word s out r after → Turning fs word s out (More r) after
+  turned : (r : Spot) (after : List ℕ) → Onward fs word s out r after → Turning fs word s out (Some r) after
   turned r after p = record {
     more = λ q e. let same : r ≡ q = cc in subst (λ x. Onward fs word s out x after) same p;
     done = λ e. let z : ◌≡◌ {A = ℕ} 0 1 = cc in absurd (omega arith);
@@ -25,11 +23,11 @@ module _ (fs : List ℕ) (word : ℕ) (s : Spot) (out : List ℕ) where
 
   pub last_turn :
       (o : Order)
-      → Last o ≡ first_opening (fields_at s.at fs)
+      → Some (Last o) ≡ first_opening (fields_at s.at fs)
       → s.at < length fs
       → (r : Spot) (after : List ℕ)
       → Ending fs (s.at + 1) o word s.i out r after
-      → Turning fs word s out (More r) after
+      → Turning fs word s out (Some r) after
   last_turn o known inside r after p =
       turned r after
       (record {
@@ -40,11 +38,11 @@ module _ (fs : List ℕ) (word : ℕ) (s : Spot) (out : List ℕ) where
 
   pub goto_turn :
       (n : ℕ)
-      → Jumps n ≡ first_opening (fields_at s.at fs)
+      → Some (Jumps n) ≡ first_opening (fields_at s.at fs)
       → s.at < length fs
       → (k : ℕ) (after : List ℕ)
       → Puts (Jump n ∷ []) s.i out k after
-      → Turning fs word s out (More (record { at = s.at + 1; i = k })) after
+      → Turning fs word s out (Some (record { at = s.at + 1; i = k })) after
   goto_turn n known inside k after p =
       turned _ after
       (record {
@@ -54,11 +52,11 @@ module _ (fs : List ℕ) (word : ℕ) (s : Spot) (out : List ℕ) where
       })
 
   pub if_turn :
-      Asks ≡ first_opening (fields_at s.at fs)
+      Some Asks ≡ first_opening (fields_at s.at fs)
       → s.at < length fs
       → (r : Spot) (after : List ℕ)
       → Choosing fs (s.at + 1) word s.i out r after
-      → Turning fs word s out (More r) after
+      → Turning fs word s out (Some r) after
   if_turn known inside r after p =
       turned r after
       (record {
@@ -67,7 +65,7 @@ module _ (fs : List ℕ) (word : ℕ) (s : Spot) (out : List ℕ) where
         onward = λ t last q. record { on = omega (arith, p.on, q.on); whole = if_whole fs word s.at s.i out r after t last q known p };
       })
 
-  pub no_turn : Missing ≡ first_opening (fields_at s.at fs) → Turning fs word s out NoMore out
+  pub no_turn : None ≡ first_opening (fields_at s.at fs) → Turning fs word s out None out
   no_turn known = record {
     more = λ q e. let z : ◌≡◌ {A = ℕ} 0 1 = cc in absurd (omega arith);
     done = λ e. record { stop = sym known; same = refl };
@@ -85,25 +83,12 @@ module _ (fs : List ℕ) (word : ℕ) (s₀ : Spot) (out₀ : List ℕ) where
   loop_none = record { far = omega arith; onward = λ t last p. p }
 
   module _ (s : Spot) (out : List ℕ) (p : Loop fs word s₀ out₀ s out) where
-    pub loop_more : (n : Turn) (r : Spot) (after : List ℕ) → n ≡ More r → Turning fs word s out n after → Loop fs word s₀ out₀ r after
+    pub loop_more : (n : Option Spot) (r : Spot) (after : List ℕ) → n ≡ Some r → Turning fs word s out n after → Loop fs word s₀ out₀ r after
     loop_more n r after e q =
         let one = q.more r e in
         record { far = omega (arith, p.far, one.on); onward = λ t last x. p.onward t last (one.onward t last x) }
 
-    pub loop_falls : (n : Turn) (r : Spot) (after : List ℕ) → n ≡ More r → Turning fs word s out n after → length fs - r.at < length fs - s.at
-    loop_falls n r after e q = let one = q.more r e in omega (arith, one.on, one.inside)
-
-    pub loop_ends : (n : Turn) (after : List ℕ) → n ≡ NoMore → Turning fs word s out n after → Parting fs s₀.at word s₀.i out₀ s after
+    pub loop_ends : (n : Option Spot) (after : List ℕ) → n ≡ None → Turning fs word s out n after → Parting fs s₀.at word s₀.i out₀ s after
     loop_ends n after e q =
         let it = q.done e in
         p.onward s after (rw it.same (part_ends fs word s.at s.i out it.stop))
-
--- an opening that is there stands inside
-pub last_inside : (n at : ℕ) (x : Opening) (o : Order) → x ≡ Last o → opening_inside n at x → at < n
-last_inside n at x o e h = subst (opening_inside n at) e h
-
-pub goto_inside : (n at : ℕ) (x : Opening) (s : ℕ) → x ≡ Jumps s → opening_inside n at x → at < n
-goto_inside n at x s e h = subst (opening_inside n at) e h
-
-pub if_inside : (n at : ℕ) (x : Opening) → x ≡ Asks → opening_inside n at x → at < n
-if_inside n at x e h = subst (opening_inside n at) e h

@@ -1,5 +1,5 @@
 -- What the functions do. While a part is put its jumps have the numbers of instructions for addresses.
-use Rattle.std.specs.Prelude.{ℕ, ◌+◌, ◌≤◌, ◌<◌, ◌≡◌, Bool, false, List, [], ◌∷◌, ◌++◌, eqb, length}
+use Rattle.std.specs.Prelude.{ℕ, ◌+◌, ◌≤◌, ◌<◌, ◌≡◌, Bool, true, false, Option, None, Some, List, [], ◌∷◌, ◌++◌, length}
 use Rattle.order.specs.declared.Order.{Order}
 use Rattle.order.specs.declared.Order.TheVariants.{Store, Skip, Send as SendOrder}
 use Rattle.sheet.specs.declared.Field.{Field}
@@ -9,47 +9,55 @@ use Rattle.sheet.specs.Fields.{expression_fields}
 use Rattle.sheet.specs.Memory.{condition_fields, part_fields}
 use Rattle.sheet.specs.Orders.{temporary, code}
 use Rattle.sheet.specs.Translation.{size, part_code}
-use Rattle.sheet_field.specs.Memory.{kind, fields_at}
+use Rattle.sheet_field.specs.Memory.{fields_at}
 use Rattle.translate_expression.specs.declared.Spot.{Spot}
 use Rattle.translate_expression.specs.Internal.{Done}
 use Rattle.translate_condition.specs.Internal.{Small}
 use Rattle.translate_part.specs.declared.Opening.{Opening}
-use Rattle.translate_part.specs.declared.Opening.TheVariants.{Last, Goto as Jumps, If as Asks, Missing}
+use Rattle.translate_part.specs.declared.Opening.TheVariants.{Last, Goto as Jumps, If as Asks}
 use Rattle.translate_part.specs.declared.Closed.{Closed}
-use Rattle.translate_part.specs.declared.Turn.{Turn}
-use Rattle.translate_part.specs.declared.Turn.TheVariants.{More, Done as NoMore}
 
 -- ---- fields
 
-abbrev pub opening_of : Field → Opening
-opening_of Else = Missing
-opening_of Start = Missing
-opening_of Finish = Missing
-opening_of If = Asks
-opening_of Send = Last SendOrder
-opening_of Neg = Missing
-opening_of Not = Missing
-opening_of (Binary o) = Missing
-opening_of (Compare r) = Missing
-opening_of (Word w) = Missing
-opening_of (Constant n) = Missing
-opening_of (Set w) = Last (Store w)
-opening_of (Goto s) = Jumps s
-opening_of (Run w n) = Missing
+abbrev pub opening_of : Field → Option Opening
+opening_of Else = None
+opening_of Start = None
+opening_of Finish = None
+opening_of If = Some Asks
+opening_of Send = Some (Last SendOrder)
+opening_of Neg = None
+opening_of Not = None
+opening_of (Binary o) = None
+opening_of (Compare r) = None
+opening_of (Word w) = None
+opening_of (Constant n) = None
+opening_of (Set w) = Some (Last (Store w))
+opening_of (Goto s) = Some (Jumps s)
+opening_of (Run w n) = None
 
-abbrev pub first_opening : List Field → Opening
-first_opening [] = Missing
+abbrev pub first_opening : List Field → Option Opening
+first_opening [] = None
 first_opening (f ∷ l) = opening_of f
 
-abbrev pub opening_inside : ℕ → ℕ → Opening → Type 0
-opening_inside n at (Last o) = at < n
-opening_inside n at (Jumps s) = at < n
-opening_inside n at Asks = at < n
-opening_inside n at Missing = Unit {0}
+abbrev pub else_field : Field → Bool
+else_field Else = true
+else_field Start = false
+else_field Finish = false
+else_field If = false
+else_field Send = false
+else_field Neg = false
+else_field Not = false
+else_field (Binary o) = false
+else_field (Compare r) = false
+else_field (Word w) = false
+else_field (Constant n) = false
+else_field (Set w) = false
+else_field (Goto s) = false
+else_field (Run w n) = false
 
 abbrev pub is_else : List Field → Bool
 is_else [] = false
-is_else (f ∷ l) = eqb (kind f) 0
+is_else (f ∷ l) = else_field f
 
 pub record Past (n at r : ℕ) : Type 0 where
   pub on : at ≤ r
@@ -84,7 +92,7 @@ pub record Parting (fs : List ℕ) (at word i : ℕ) (out : List ℕ) (r : Spot)
       (v : ℕ) (x : Part) (l : List Field)
       → word ≡ temporary v 0
       → fields_at at fs ≡ part_fields x ++ l
-      → first_opening l ≡ Missing
+      → first_opening l ≡ None
       → Small fs word out
       → Done fs l (unled v i x) i out r after
 
@@ -129,9 +137,9 @@ pub record Onward (fs : List ℕ) (word : ℕ) (s : Spot) (out : List ℕ) (r : 
   pub onward : (t : Spot) (last : List ℕ) → Parting fs r.at word r.i after t last → Parting fs s.at word s.i out t last
 
 pub record Ended (fs : List ℕ) (s : Spot) (out after : List ℕ) : Type 0 where
-  pub stop : first_opening (fields_at s.at fs) ≡ Missing
+  pub stop : first_opening (fields_at s.at fs) ≡ None
   pub same : after ≡ out
 
-pub record Turning (fs : List ℕ) (word : ℕ) (s : Spot) (out : List ℕ) (n : Turn) (after : List ℕ) : Type 0 where
-  pub more : (r : Spot) → n ≡ More r → Onward fs word s out r after
-  pub done : n ≡ NoMore → Ended fs s out after
+pub record Turning (fs : List ℕ) (word : ℕ) (s : Spot) (out : List ℕ) (n : Option Spot) (after : List ℕ) : Type 0 where
+  pub more : (r : Spot) → n ≡ Some r → Onward fs word s out r after
+  pub done : n ≡ None → Ended fs s out after

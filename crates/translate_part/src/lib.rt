@@ -3,14 +3,14 @@
 // parts are, so that its branches are put with their addresses.
 #![tactic(auto)]
 
-ghost use Rattle.std.specs.Prelude.{◌≡◌, length};
+ghost use Rattle.std.specs.Prelude.{◌≡◌, ◌<◌, length, OnSome};
 ghost use Rattle.sheet_field.specs.Memory.{fields_at};
-ghost use Rattle.translate_part.specs.Internal.{opening_of, first_opening, opening_inside, is_else, Past, Further};
+ghost use Rattle.translate_part.specs.Internal.{opening_of, first_opening, is_else, Past, Further};
 ghost use Rattle.translate_part.specs.Internal.{Ending, Parting, Closing, Choosing, Turning};
 
 use order::Order;
 use sheet::Field;
-use sheet_field::{field_at, kind_of};
+use sheet_field::field_in;
 use translate_condition::{behind, put_asking};
 use translate_expression::{Spot, put_expression, put_order};
 use translate_size::condition_size;
@@ -21,14 +21,6 @@ pub enum Opening {
     Last(Order),
     Goto(u32),
     If,
-    Missing,
-}
-
-// What became of an instruction: the places behind it, or that there is none.
-#[derive(Clone, Copy)]
-pub enum Turn {
-    More(Spot),
-    Done,
 }
 
 // The places behind an IF, and the order that a no leads to.
@@ -39,45 +31,31 @@ struct Closed {
     no: u32,
 }
 
-fn opening_of(f: Field) -> Opening
+fn opening_of(f: Field) -> Option<Opening>
     ensures { result ≡ opening_of f }
 {
     match f {
-        Field::Else => Opening::Missing,
-        Field::Start => Opening::Missing,
-        Field::Finish => Opening::Missing,
-        Field::If => Opening::If,
-        Field::Send => Opening::Last(Order::Send),
-        Field::Neg => Opening::Missing,
-        Field::Not => Opening::Missing,
-        Field::Binary(_) => Opening::Missing,
-        Field::Compare(_) => Opening::Missing,
-        Field::Word(_) => Opening::Missing,
-        Field::Constant(_) => Opening::Missing,
-        Field::Set(w) => Opening::Last(Order::Store(w)),
-        Field::Goto(s) => Opening::Goto(s),
-        Field::Run(_, _) => Opening::Missing,
+        Field::If => Some(Opening::If),
+        Field::Send => Some(Opening::Last(Order::Send)),
+        Field::Set(w) => Some(Opening::Last(Order::Store(w))),
+        Field::Goto(s) => Some(Opening::Goto(s)),
+        _ => None,
     }
 }
 
-fn opening_at(fields: &[u64], at: usize) -> Opening
+fn opening_at(fields: &[u64], at: usize) -> Option<Opening>
     ensures found { result ≡ first_opening (fields_at at fields.now) }
-    ensures inside { opening_inside (length fields.now) at result }
+    ensures inside { OnSome result (at < length fields.now) }
 {
-    if at < fields.len() {
-        return opening_of(field_at(fields, at));
-    }
-    Opening::Missing
+    let w = *fields.get(at)?;
+    opening_of(field_in(w))
 }
 
 // Whether ELSE stands at a place.
 fn else_at(fields: &[u64], at: usize) -> bool
     ensures { result ≡ is_else (fields_at at fields.now) }
 {
-    if at < fields.len() {
-        return kind_of(field_at(fields, at)) == 0;
-    }
-    false
+    at < fields.len() && matches!(field_in(fields[at]), Field::Else)
 }
 
 // The place behind, where the array has not ended.
@@ -120,29 +98,26 @@ pub fn put_part(fields: &[u64], at: usize, word: u32, out: &mut [u64], i: usize)
     ensures { Parting fields.now at word i out.old result out.new }
 {
     let mut s = Spot { at, i };
-    loop {
-        let Turn::More(r) = put_one(fields, word, out, s) else {
-            return s;
-        };
+    while let Some(r) = put_one(fields, word, out, s) {
         s = r;
     }
+    s
 }
 
-// One instruction.
+// One instruction: the places behind it, where there is one.
 #[cycle(put_else_put_if_put_one_put_part)]
-fn put_one(fields: &[u64], word: u32, out: &mut [u64], s: Spot) -> Turn
+fn put_one(fields: &[u64], word: u32, out: &mut [u64], s: Spot) -> Option<Spot>
     ensures { Turning fields.now word s out.old result out.new }
 {
     let at = s.at;
     let i = s.i;
-    match opening_at(fields, at) {
-        Opening::Last(o) => Turn::More(put_last(fields, at + 1, o, word, out, i)),
-        Opening::Goto(n) => Turn::More(Spot {
+    match opening_at(fields, at)? {
+        Opening::Last(o) => Some(put_last(fields, at + 1, o, word, out, i)),
+        Opening::Goto(n) => Some(Spot {
             at: at + 1,
             i: put_order(out, i, Order::Jump(n)),
         }),
-        Opening::If => Turn::More(put_if(fields, at + 1, word, out, i)),
-        Opening::Missing => Turn::Done,
+        Opening::If => Some(put_if(fields, at + 1, word, out, i)),
     }
 }
 

@@ -4,17 +4,17 @@ use mathlib.Core.Path.{◌≡◌, refl, sym, ap, ◌∙◌}
 use mathlib.Core.List.{List, [], ◌∷◌, ◌++◌, append_assoc, append-nil}
 use native.Mathlib.Omega.{arith}
 use lib.ListN.{length, get_or}
-use Rattle.word.specs.declared.Relation.{Relation}
-use Rattle.word.specs.declared.Relation.TheVariants.{Equal, Unequal, Less, AtMost, Greater, AtLeast}
 use Rattle.order.specs.declared.Operation.TheVariants.{Cmp}
 use Rattle.sheet.specs.declared.Field.{Field}
+use Rattle.sheet.specs.declared.Field.TheVariants.{Run}
+use Rattle.sheet.specs.declared.Joining.{Joining}
 use Rattle.sheet.specs.Sheet.{Condition, compares, joins}
 use Rattle.sheet.specs.Fields.{expression_fields}
 use Rattle.sheet.specs.Memory.{condition_fields}
 use Rattle.sheet.specs.Orders.{comparison_code}
 use Rattle.sheet.specs.Condition.{comparisons, trying, asking, condition_temporaries}
 use Rattle.sheet.proofs.Sizes.{comparisons_some}
-use Rattle.sheet_field.specs.Memory.{relation_number, kind, field_in, fields_at}
+use Rattle.sheet_field.specs.Memory.{field_in, fields_at}
 use Rattle.translate_expression.specs.declared.Step.{Step}
 use Rattle.translate_expression.specs.Internal.{first_node, right_of, right_step}
 use Rattle.translate_size.specs.declared.Counted.{Counted}
@@ -22,7 +22,7 @@ use Rattle.translate_size.specs.declared.Asked.{Asked}
 use Rattle.translate_size.specs.Answers.{capped}
 use Rattle.translate_size.specs.Internal.{Past, Measuring, Stepping, Comparing, all_fields, total, most, Open, Onward, Asks, Trying, Asking}
 use Rattle.translate_size.proofs.Counting.{capped_one, capped_sum, capped_max, joined_by, right_on}
-use Rattle.translate_size.proofs.Looking.{first_kind, past_first, kind_inside}
+use Rattle.translate_size.proofs.Looking.{first_field, past_first, run_inside}
 
 -- ---- a comparison and its branch
 
@@ -46,19 +46,11 @@ module _ (fs : List ℕ) (at p : ℕ) (past : Past (length fs) at p) (first : Co
 
 -- ---- one field more
 
-relation_below : (t : Relation) → relation_number t < 6
-relation_below Equal = omega arith
-relation_below Unequal = omega arith
-relation_below Less = omega arith
-relation_below AtMost = omega arith
-relation_below Greater = omega arith
-relation_below AtLeast = omega arith
-
-module _ (fs : List ℕ) (s : Asked) (some : 0 < s.left) (few : s.left ≤ s.at + 1) (k : ℕ) (known : k ≡ kind (field_in (get_or fs s.at 0))) where
+module _ (fs : List ℕ) (s : Asked) (some : 0 < s.left) (few : s.left ≤ s.at + 1) (f : Field) (known : f ≡ field_in (get_or fs s.at 0)) where
   -- a run's
-  module _ (is_run_law : 27 ≤ k) where
-    pub run_inside : s.at < length fs
-    run_inside = kind_inside fs s.at k known (omega arith)
+  module _ (w : Joining) (n : ℕ) (is_run : f ≡ Run w n) where
+    inside : s.at < length fs
+    inside = run_inside fs s.at w n (sym is_run ∙ known)
 
     module _ (p : ℕ) (past : Past (length fs) s.at p) (ns : ℕ) (one : ns ≡ capped (s.comparisons + 1)) where
       abbrev parted : Asked
@@ -72,8 +64,9 @@ module _ (fs : List ℕ) (s : Asked) (some : 0 < s.left) (few : s.left ≤ s.at 
       run_open v c l o [] e = let n = sym (ap length e) ∙ o.many in absurd (omega (arith, n))
       run_open v c l o (compares t a b ∷ cs) e =
           let here = o.rest ∙ ap (λ q. all_fields q ++ l) e in
-          let k_too = first_kind fs s.at k _ _ known here in
-          absurd (omega (arith, k_too, relation_below t))
+          let its = first_field fs s.at f _ _ known here in
+          let z : ◌≡◌ {A = ℕ} 0 1 = cc in
+          absurd (omega arith)
       run_open v c l o (joins w a b ∷ cs) e =
           let here = o.rest ∙ ap (λ q. all_fields q ++ l) e in
           record {
@@ -97,7 +90,6 @@ module _ (fs : List ℕ) (s : Asked) (some : 0 < s.left) (few : s.left ≤ s.at 
 
       pub run_on : Onward fs s parted
       run_on =
-          let inside = run_inside in
           let there = past.inside inside in
           record {
             on = omega (arith, there);
@@ -107,7 +99,7 @@ module _ (fs : List ℕ) (s : Asked) (some : 0 < s.left) (few : s.left ≤ s.at 
           }
 
   -- a comparison's
-  module _ (no_run : k < 27) (c : Counted) (compared : Comparing fs s.at c) (os ts : ℕ) (sums : os ≡ capped (s.orders + c.orders))
+  module _ (no_run : (w : Joining) (n : ℕ) → f ≡ Run w n → ⊥) (c : Counted) (compared : Comparing fs s.at c) (os ts : ℕ) (sums : os ≡ capped (s.orders + c.orders))
       (largest : ts ≡ max s.temporaries c.temporaries) where
     abbrev counted : Asked
     counted = record { at = c.at; left = s.left - 1; orders = os; temporaries = ts; comparisons = s.comparisons }
@@ -139,8 +131,7 @@ module _ (fs : List ℕ) (s : Asked) (some : 0 < s.left) (few : s.left ≤ s.at 
         }
     compared_open v q l o (joins w a b ∷ cs) e =
         let here = o.rest ∙ ap (λ x. all_fields x ++ l) e in
-        let k_too = first_kind fs s.at k _ _ known here in
-        absurd (omega (arith, k_too))
+        absurd (no_run _ _ (first_field fs s.at f _ _ known here))
 
     pub compared_on : Onward fs s counted
     compared_on = record {
@@ -179,9 +170,6 @@ module _ (fs : List ℕ) (at : ℕ) where
       all_comparisons = omega arith;
     };
   }
-
-  pub try_more : (s r : Asked) → Tried fs at s → Onward fs s r → Tried fs at r
-  try_more s r p q = record { on = omega (arith, p.on, q.on); few = q.few; still = λ v c l e. q.still v c l (p.still v c l e) }
 
   none_open : (v : ℕ) (c : Condition) (l : List Field) (s : Asked) → s.left ≤ 0 → (o : Open fs v c l s) (cs : List Condition) → o.to_come ≡ cs
       → Asks fs l (trying v c) (condition_temporaries c) (comparisons c) s

@@ -2,6 +2,7 @@
 use Prim.Native.Nat.{ℕ, suc, ◌+◌, ◌*◌, ◌-◌, ◌<◌, ◌≤◌, max}
 use mathlib.Core.Path.{◌≡◌, refl, sym, ap, subst, ◌∙◌}
 use mathlib.Core.Bool.{false}
+use Rattle.std.specs.Prelude.{Option, None, Some}
 use mathlib.Core.List.{List, [], ◌∷◌, ◌++◌, append_assoc}
 use native.Mathlib.Omega.{arith}
 use lib.ListN.{length, length-append}
@@ -15,11 +16,9 @@ use Rattle.sheet.specs.Orders.{operation, code, joined, temporaries, joined_temp
 use Rattle.sheet_field.specs.Memory.{fields_at}
 use Rattle.translate_expression.specs.declared.Operand.{Operand}
 use Rattle.translate_expression.specs.declared.Node.{Node}
-use Rattle.translate_expression.specs.declared.Node.TheVariants.{Plain, Unary, Binary, Missing}
-use Rattle.translate_expression.specs.declared.Right.{Right}
-use Rattle.translate_expression.specs.declared.Right.TheVariants.{Plain as PlainRight, WorkedOut}
+use Rattle.translate_expression.specs.declared.Node.TheVariants.{Plain, Unary, Binary}
 use Rattle.translate_expression.specs.declared.Step.{Step}
-use Rattle.translate_expression.specs.declared.Step.TheVariants.{Put, Right as RightStep, Missing as NoStep}
+use Rattle.translate_expression.specs.declared.Step.TheVariants.{Put, Right as RightStep}
 use Rattle.translate_expression.specs.Internal.{behind, first_node, is_operator, right_of, order_on, right_step, step_of, Run}
 use Rattle.translate_expression.proofs.Turns.{fields_behind, impossible, workedly, some_node}
 use Rattle.translate_size.specs.declared.Counted.{Counted}
@@ -50,7 +49,7 @@ record IsPlain (e : Expression) (l : List Field) : Type 0 where
   uses : (a b : ℕ) → joined_temporaries (operand e) a b ≡ a
   past : behind (expression_fields e ++ l) ≡ l
 
-plainly : (e : Expression) (l : List Field) (x : Operand) → PlainRight x ≡ right_of (first_node (expression_fields e ++ l)) → IsPlain e l
+plainly : (e : Expression) (l : List Field) (x : Operand) → Some x ≡ right_of (first_node (expression_fields e ++ l)) → IsPlain e l
 unfolding expression_fields code temporaries
 plainly (word w) l x h =
     record { one = λ v d. refl; none = refl; joins = λ o v d a b. length-append a _; uses = λ a b. refl; past = refl }
@@ -63,7 +62,7 @@ plainly (binary o a b) l x h = let z : ◌≡◌ {A = ℕ} 0 1 = cc in absurd (o
 module _ (fs : List ℕ) (at : ℕ) where
   pub leaf_counted :
       (x : Operand)
-      → PlainRight x ≡ right_of (first_node (fields_at at fs))
+      → Some x ≡ right_of (first_node (fields_at at fs))
       → Measuring fs at (record { at = at + 1; orders = 1; temporaries = 0 })
   leaf_counted x known = record {
     on = omega arith;
@@ -77,7 +76,7 @@ module _ (fs : List ℕ) (at : ℕ) where
   }
 
   pub no_leaf :
-      WorkedOut ≡ right_of (first_node (fields_at at fs))
+      None ≡ right_of (first_node (fields_at at fs))
       → is_operator (first_node (fields_at at fs)) ≡ false
       → Measuring fs at (record { at = at; orders = 0; temporaries = 0 })
   no_leaf known none = record {
@@ -95,7 +94,7 @@ module _ (fs : List ℕ) (s r : Counted) (f : Operation) (v d : ℕ) (a b : Expr
     (done : Counts fs (expression_fields b ++ l) (length (code v d a)) (temporaries a) s) where
   plain_joined :
       (x : Operand)
-      → PlainRight x ≡ right_of (first_node (fields_at s.at fs))
+      → Some x ≡ right_of (first_node (fields_at s.at fs))
       → OneMore s (s.at + 1) r
       → Counts fs l (length (joined f v d (operand b) (code v d a) (code v (suc d) b)))
       (joined_temporaries (operand b) (temporaries a) (temporaries b)) r
@@ -112,7 +111,7 @@ module _ (fs : List ℕ) (s r : Counted) (f : Operation) (v d : ℕ) (a b : Expr
       }
 
   worked_joined :
-      WorkedOut ≡ right_of (first_node (fields_at s.at fs))
+      None ≡ right_of (first_node (fields_at s.at fs))
       → Righting fs s r
       → Counts fs l (length (joined f v d (operand b) (code v d a) (code v (suc d) b)))
       (joined_temporaries (operand b) (temporaries a) (temporaries b)) r
@@ -126,23 +125,23 @@ module _ (fs : List ℕ) (s r : Counted) (f : Operation) (v d : ℕ) (a b : Expr
       }
 
   pub joined_by :
-      (q : Right)
+      (q : Option Operand)
       → q ≡ right_of (first_node (fields_at s.at fs))
       → (step : Step)
       → step ≡ right_step f s.at q
       → Stepping fs step s r
       → Counts fs l (length (joined f v d (operand b) (code v d a) (code v (suc d) b)))
       (joined_temporaries (operand b) (temporaries a) (temporaries b)) r
-  joined_by (PlainRight x) known step e p = plain_joined x known (p.put (order_on f x) (s.at + 1) e)
-  joined_by WorkedOut known step e p = worked_joined known (p.right f e)
+  joined_by (Some x) known step e p = plain_joined x known (p.put (order_on f x) (s.at + 1) e)
+  joined_by None known step e p = worked_joined known (p.right f e)
 
 -- a step goes on
-pub right_on : (fs : List ℕ) (s r : Counted) (f : Operation) (q : Right) (step : Step)
+pub right_on : (fs : List ℕ) (s r : Counted) (f : Operation) (q : Option Operand) (step : Step)
     → step ≡ right_step f s.at q
     → Stepping fs step s r
     → s.at ≤ r.at
-right_on fs s r f (PlainRight x) step e p = let u = p.put (order_on f x) (s.at + 1) e in omega (arith, u.place)
-right_on fs s r f WorkedOut step e p = (p.right f e).on
+right_on fs s r f (Some x) step e p = let u = p.put (order_on f x) (s.at + 1) e in omega (arith, u.place)
+right_on fs s r f None step e p = (p.right f e).on
 
 -- ---- an operator
 
@@ -150,7 +149,7 @@ module _ (fs : List ℕ) (j : ℕ) (s : Counted) where
   no_turn : (r : Counted) → s.at ≤ r.at → is_operator (first_node (fields_at j fs)) ≡ false → Operating fs j s r
   no_turn r on none = record { on = on; outwards = λ some p. impossible _ some none }
 
-  module _ (o : Order) (known : Unary o ≡ first_node (fields_at j fs)) (r : Counted) (more : OneMore s s.at r)
+  module _ (o : Order) (known : Some (Unary o) ≡ first_node (fields_at j fs)) (r : Counted) (more : OneMore s s.at r)
       (p : Measuring fs (j + 1) s) where
     under : (v d : ℕ) (e : Expression) (l : List Field) (q : Order) → fields_at (j + 1) fs ≡ expression_fields e ++ l
         → Counts fs l (length (code v d e ++ q ∷ [])) (temporaries e) r
@@ -177,7 +176,7 @@ module _ (fs : List ℕ) (j : ℕ) (s : Counted) where
     unary_whole v d (inverted e) l h = under v d e l Not (fields_behind j fs ∙ ap behind h)
     unary_whole v d (binary f a e) l h = let z : ◌≡◌ {A = ℕ} 0 1 = cc (ap first_node h) in absurd (omega arith)
 
-  module _ (f : Operation) (known : Binary f ≡ first_node (fields_at j fs)) (step : Step)
+  module _ (f : Operation) (known : Some (Binary f) ≡ first_node (fields_at j fs)) (step : Step)
       (asked : step ≡ right_step f s.at (right_of (first_node (fields_at s.at fs)))) (r : Counted)
       (stepping : Stepping fs step s r) (p : Measuring fs (j + 1) s) where
     binary_whole :
@@ -198,23 +197,34 @@ module _ (fs : List ℕ) (j : ℕ) (s : Counted) where
         same
         (joined_by fs s r f v d a e l done _ refl step asked stepping)
 
-  -- the operator at j by the step that it asks
+  -- the operator at j by the step that it asks, and a place where there is none
   pub operating :
-      (n : Node)
+      (n : Option Node)
       → n ≡ first_node (fields_at j fs)
       → (step : Step)
-      → step ≡ step_of n s.at (right_of (first_node (fields_at s.at fs)))
+      → Some step ≡ step_of n s.at (right_of (first_node (fields_at s.at fs)))
       → (r : Counted)
       → Stepping fs step s r
       → Operating fs j s r
-  operating (Plain x) known step e r p = no_turn r (omega (arith, p.stay e)) (sym (ap is_operator known))
-  operating (Unary o) known step e r p =
-      let u = p.put o s.at e in
+  operating (Some (Plain x)) known step e r p = let z : ◌≡◌ {A = ℕ} 0 1 = cc in absurd (omega arith)
+  operating (Some (Unary o)) known step e r p =
+      let u = p.put o s.at (cc) in
       record { on = omega (arith, u.place); outwards = λ some q. record { on = omega (arith, q.on, u.place); whole = unary_whole o known r u q } }
-  operating (Binary f) known step e r p =
-      let on = right_on fs s r f (right_of (first_node (fields_at s.at fs))) step e p in
-      record { on = on; outwards = λ some q. record { on = omega (arith, q.on, on); whole = binary_whole f known step e r p q } }
-  operating Missing known step e r p = no_turn r (omega (arith, p.stay e)) (sym (ap is_operator known))
+  operating (Some (Binary f)) known step e r p =
+      let asked : step ≡ right_step f s.at (right_of (first_node (fields_at s.at fs))) = cc in
+      let on = right_on fs s r f (right_of (first_node (fields_at s.at fs))) step asked p in
+      record { on = on; outwards = λ some q. record { on = omega (arith, q.on, on); whole = binary_whole f known step asked r p q } }
+  operating None known step e r p = let z : ◌≡◌ {A = ℕ} 0 1 = cc in absurd (omega arith)
+
+  pub not_operating :
+      (n : Option Node)
+      → n ≡ first_node (fields_at j fs)
+      → None ≡ step_of n s.at (right_of (first_node (fields_at s.at fs)))
+      → Operating fs j s s
+  not_operating (Some (Plain x)) known e = no_turn s (omega arith) (sym (ap is_operator known))
+  not_operating (Some (Unary o)) known e = let z : ◌≡◌ {A = ℕ} 0 1 = cc in absurd (omega arith)
+  not_operating (Some (Binary f)) known e = let z : ◌≡◌ {A = ℕ} 0 1 = cc in absurd (omega arith)
+  not_operating None known e = no_turn s (omega arith) (sym (ap is_operator known))
 
 -- ---- the loop outwards
 
@@ -252,21 +262,13 @@ pub step_put : (fs : List ℕ) (s : Counted) (step : Step) (o : Order) (a n : �
     → Stepping fs step s (record { at = a; orders = n; temporaries = s.temporaries })
 step_put fs s step o a n e is = record {
   put = λ q b f. let here : a ≡ b = cc in record { place = here; one_order = is; same_temporaries = refl };
-  stay = λ g. let z : ◌≡◌ {A = ℕ} 0 1 = cc in absurd (omega arith);
   right = λ f g. let z : ◌≡◌ {A = ℕ} 0 1 = cc in absurd (omega arith);
-}
-
-pub step_missing : (fs : List ℕ) (s : Counted) (step : Step) → step ≡ NoStep → Stepping fs step s s
-step_missing fs s step e = record {
-  put = λ o a g. let z : ◌≡◌ {A = ℕ} 0 1 = cc in absurd (omega arith);
-  stay = λ g. refl;
-  right = λ g h. let z : ◌≡◌ {A = ℕ} 0 1 = cc in absurd (omega arith);
 }
 
 -- a right operand that is worked out
 module _ (fs : List ℕ) (s second : Counted) (p : Measuring fs s.at second) (both n one two t : ℕ)
     (sums : both ≡ capped (s.orders + second.orders)) (all : n ≡ capped (both + 4))
-    (ones : one ≡ capped (second.temporaries + 1)) (twos : two ≡ max 2 one) (most : t ≡ max s.temporaries two) where
+    (ones : one ≡ capped (second.temporaries + 1)) (twos : two ≡ max one 2) (most : t ≡ max s.temporaries two) where
   orders_right : (a b : ℕ) → s.orders ≡ capped a → second.orders ≡ capped b → n ≡ capped (a + b + 4)
   orders_right a b e f =
       all ∙ ap (λ k. capped (k + 4)) (sums ∙ rw (e, f) (capped_sum a b)) ∙ capped_four (a + b)
@@ -274,7 +276,7 @@ module _ (fs : List ℕ) (s second : Counted) (p : Measuring fs s.at second) (bo
   temporaries_right : (a b : ℕ) → s.temporaries ≡ capped a → second.temporaries ≡ capped b → t ≡ capped (max a (max 2 (1 + b)))
   temporaries_right a b e f =
       let some : one ≡ capped (1 + b) = omega (arith, ones, f) in
-      let more : two ≡ capped (max 2 (1 + b)) = twos ∙ rw some (capped_max 2 (1 + b)) in
+      let more : two ≡ capped (max 2 (1 + b)) = omega (arith, twos, some) in
       most ∙ rw (e, more) (capped_max a (max 2 (1 + b)))
 
   righting : Righting fs s (record { at = second.at; orders = n; temporaries = t })
@@ -293,6 +295,5 @@ module _ (fs : List ℕ) (s second : Counted) (p : Measuring fs s.at second) (bo
       → Stepping fs step s (record { at = second.at; orders = n; temporaries = t })
   step_right step f e = record {
     put = λ o a g. let z : ◌≡◌ {A = ℕ} 0 1 = cc in absurd (omega arith);
-    stay = λ g. let z : ◌≡◌ {A = ℕ} 0 1 = cc in absurd (omega arith);
     right = λ g h. righting;
   }

@@ -6,12 +6,12 @@ use native.Mathlib.Omega.{arith}
 use lib.ListN.{length, get_or, length-append}
 use Rattle.order.specs.declared.Order.TheVariants.{Store, Send as SendOrder}
 use Rattle.sheet.specs.declared.Field.{Field}
-use Rattle.sheet.specs.declared.Field.TheVariants.{Else, Finish}
+use Rattle.sheet.specs.declared.Field.TheVariants.{Else, Finish, If, Goto}
 use Rattle.sheet.specs.Sheet.{Simple, set, send, goto}
 use Rattle.sheet.specs.Fields.{simple_fields}
 use Rattle.sheet.specs.Orders.{code, simple_size, simple_temporaries}
 use Rattle.sheet.specs.Condition.{asking, condition_temporaries}
-use Rattle.sheet_field.specs.Memory.{kind, field_in, fields_at}
+use Rattle.sheet_field.specs.Memory.{field_in, fields_at}
 use Rattle.translate_expression.specs.Internal.{behind}
 use Rattle.translate_expression.proofs.Turns.{fields_behind}
 use Rattle.translate_size.specs.declared.Counted.{Counted}
@@ -20,17 +20,12 @@ use Rattle.translate_size.specs.declared.Size.{Size}
 use Rattle.translate_size.specs.Answers.{capped, SizeOf}
 use Rattle.translate_size.specs.Internal.{Past, Measuring, Asking, Simply, Ifs}
 use Rattle.translate_size.proofs.Counting.{capped_one, capped_sum, capped_max}
-use Rattle.translate_size.proofs.Looking.{left_length, first_kind, past_first, none_left}
+use Rattle.translate_size.proofs.Looking.{left_length, first_field, past_first, none_left}
 
 -- ---- an instruction that is no IF
 
-module _ (fs : List ℕ) (at k : ℕ) (known : k ≡ kind (field_in (get_or fs at 0))) (p : ℕ) (past : Past (length fs) at p) where
-  pub goto_counted : k ≡ 26 → Simply fs at (record { at = p; orders = 1; temporaries = 0 })
-  goto_counted told v (set w e) l h = let k_too = first_kind fs at k _ _ known h in absurd (omega arith)
-  goto_counted told v (send e) l h = let k_too = first_kind fs at k _ _ known h in absurd (omega arith)
-  goto_counted told v (goto s) l h = record { rest = past_first fs at p _ _ past h; its_orders = refl; its_temporaries = refl }
-
-  module _ (not_goto : k ≡ 26 → ⊥) (e : Counted) (measured : Measuring fs p e) (n : ℕ) (all : n ≡ capped (e.orders + 1)) where
+module _ (fs : List ℕ) (at : ℕ) (f : Field) (known : f ≡ field_in (get_or fs at 0)) (p : ℕ) (past : Past (length fs) at p) where
+  module _ (not_goto : (s : ℕ) → f ≡ Goto s → ⊥) (e : Counted) (measured : Measuring fs p e) (n : ℕ) (all : n ≡ capped (e.orders + 1)) where
     pub worked_counted : Simply fs at (record { at = e.at; orders = n; temporaries = e.temporaries })
     worked_counted v (set w x) l h =
         let done = measured.whole v 0 x l (past_first fs at p _ _ past h) in
@@ -54,7 +49,7 @@ module _ (fs : List ℕ) (at k : ℕ) (known : k ≡ kind (field_in (get_or fs a
               ∙ sym (ap capped (length-append (code v 0 x) (SendOrder ∷ [])));
           its_temporaries = done.its_temporaries;
         }
-    worked_counted v (goto s) l h = absurd (not_goto (first_kind fs at k _ _ known h))
+    worked_counted v (goto s) l h = absurd (not_goto s (first_field fs at f _ _ known h))
 
 -- ---- behind IF
 
@@ -86,7 +81,7 @@ module _ (fs : List ℕ) (c : Asked) (asks : Asking fs 1 c) (p : ℕ) (past : Pa
         };
   }
 
-  module _ (some : p < length fs) (u : Counted) (simply : Simply fs p u) (k : ℕ) (known : k ≡ kind (field_in (get_or fs u.at 0)))
+  module _ (some : p < length fs) (u : Counted) (simply : Simply fs p u) (f : Field) (known : f ≡ field_in (get_or fs u.at 0))
       (os ts : ℕ) (sums : os ≡ capped (c.orders + u.orders)) (most : ts ≡ max c.temporaries u.temporaries) where
     both_orders : (a b : ℕ) → c.orders ≡ capped a → u.orders ≡ capped b → os ≡ capped (a + b)
     both_orders a b e f = sums ∙ rw (e, f) (capped_sum a b)
@@ -94,7 +89,7 @@ module _ (fs : List ℕ) (c : Asked) (asks : Asking fs 1 c) (p : ℕ) (past : Pa
     both_temporaries : (a b : ℕ) → c.temporaries ≡ capped a → u.temporaries ≡ capped b → ts ≡ capped (max a b)
     both_temporaries a b e f = most ∙ rw (e, f) (capped_max a b)
 
-    pub if_whole : (k ≡ 0 → ⊥) → Ifs fs (record { orders = os; temporaries = ts; instructions = 2; comparisons = c.comparisons })
+    pub if_whole : (f ≡ Else → ⊥) → Ifs fs (record { orders = os; temporaries = ts; instructions = 2; comparisons = c.comparisons })
     if_whole no_else = record {
       few = omega arith;
       one = λ v q x e.
@@ -108,14 +103,14 @@ module _ (fs : List ℕ) (c : Asked) (asks : Asking fs 1 c) (p : ℕ) (past : Pa
           };
       two = λ v q x y e.
           let done = simply v x _ (past_first fs c.at p _ _ past (asks.whole v q _ e).rest) in
-          absurd (no_else (first_kind fs u.at k _ _ known done.rest));
+          absurd (no_else (first_field fs u.at f _ _ known done.rest));
       none = λ v q e.
           let start = past_first fs c.at p _ _ past (asks.whole v q _ e).rest in
           let n = none_left fs p start in
           absurd (omega arith);
     }
 
-    module _ (is_else_law : k ≡ 0) (b : ℕ) (past_too : Past (length fs) u.at b) (w : Counted) (simply_too : Simply fs b w) (ps ns us : ℕ)
+    module _ (is_else : f ≡ Else) (b : ℕ) (past_too : Past (length fs) u.at b) (w : Counted) (simply_too : Simply fs b w) (ps ns us : ℕ)
         (more : ps ≡ capped (os + w.orders)) (all : ns ≡ capped (ps + 1)) (most_too : us ≡ max ts w.temporaries) where
       all_orders : (a m n : ℕ) → os ≡ capped (a + m) → w.orders ≡ capped n → ns ≡ capped (a + m + 1 + n)
       all_orders a m n e f =
@@ -133,7 +128,8 @@ module _ (fs : List ℕ) (c : Asked) (asks : Asking fs 1 c) (p : ℕ) (past : Pa
         few = omega arith;
         one = λ v q x e.
             let done = simply v x _ (past_first fs c.at p _ _ past (asks.whole v q _ e).rest) in
-            let k_too = first_kind fs u.at k _ _ known done.rest in
+            let its = first_field fs u.at f _ _ known done.rest in
+            let z : ◌≡◌ {A = ℕ} 0 1 = cc in
             absurd (omega arith);
         two = λ v q x y e.
             let asked = asks.whole v q _ e in
@@ -157,8 +153,8 @@ module _ (fs : List ℕ) (c : Asked) (asks : Asking fs 1 c) (p : ℕ) (past : Pa
 
 -- ---- the statement's instruction
 
-module _ (fs : List ℕ) (k : ℕ) (known : k ≡ kind (field_in (get_or fs 0 0))) where
-  pub size_if : k ≡ 3 → (r : Size) → Ifs fs r → SizeOf fs r
+module _ (fs : List ℕ) (f : Field) (known : f ≡ field_in (get_or fs 0 0)) where
+  pub size_if : f ≡ If → (r : Size) → Ifs fs r → SizeOf fs r
   size_if told r ifs = record {
     few = ifs.few;
     of_simple = λ v u e. absurd (no_simple u e);
@@ -168,18 +164,18 @@ module _ (fs : List ℕ) (k : ℕ) (known : k ≡ kind (field_in (get_or fs 0 0)
   }
     where
       no_simple : (u : Simple) → fields_at 0 fs ≡ simple_fields u → ⊥
-      no_simple (set w x) e = let k_too = first_kind fs 0 k _ _ known e in omega arith
-      no_simple (send x) e = let k_too = first_kind fs 0 k _ _ known e in omega arith
-      no_simple (goto s) e = let k_too = first_kind fs 0 k _ _ known e in omega arith
+      no_simple (set w x) e = let its = first_field fs 0 f _ _ known e in let z : ◌≡◌ {A = ℕ} 0 1 = cc in omega arith
+      no_simple (send x) e = let its = first_field fs 0 f _ _ known e in let z : ◌≡◌ {A = ℕ} 0 1 = cc in omega arith
+      no_simple (goto s) e = let its = first_field fs 0 f _ _ known e in let z : ◌≡◌ {A = ℕ} 0 1 = cc in omega arith
 
-  pub size_simple : (k ≡ 3 → ⊥) → (u : Counted) → Simply fs 0 u
+  pub size_simple : (f ≡ If → ⊥) → (u : Counted) → Simply fs 0 u
       → SizeOf fs (record { orders = u.orders; temporaries = u.temporaries; instructions = 1; comparisons = 0 })
   size_simple no_if u simply = record {
     few = omega arith;
     of_simple = λ v x e.
         let done = simply v x [] (e ∙ sym (append-nil (simple_fields x))) in
         record { its_orders = done.its_orders; its_temporaries = done.its_temporaries; its_instructions = refl; its_comparisons = refl };
-    of_then = λ v c x e. absurd (no_if (first_kind fs 0 k _ _ known e));
-    of_else = λ v c x y e. absurd (no_if (first_kind fs 0 k _ _ known e));
-    of_start = λ v c e. absurd (no_if (first_kind fs 0 k _ _ known e));
+    of_then = λ v c x e. absurd (no_if (first_field fs 0 f _ _ known e));
+    of_else = λ v c x y e. absurd (no_if (first_field fs 0 f _ _ known e));
+    of_start = λ v c e. absurd (no_if (first_field fs 0 f _ _ known e));
   }

@@ -12,7 +12,7 @@ use Rattle.sheet.specs.Orders.{code, simple_size, temporaries, simple_temporarie
 use Rattle.sheet.specs.Condition.{comparisons, trying, asking, condition_temporaries}
 use Rattle.sheet_field.specs.Memory.{fields_at}
 use Rattle.translate_expression.specs.declared.Step.{Step}
-use Rattle.translate_expression.specs.declared.Step.TheVariants.{Put, Right, Missing}
+use Rattle.translate_expression.specs.declared.Step.TheVariants.{Put, Right}
 use Rattle.translate_expression.specs.Internal.{first_node, is_operator}
 use Rattle.translate_size.specs.declared.Counted.{Counted}
 use Rattle.translate_size.specs.declared.Asked.{Asked}
@@ -58,7 +58,6 @@ pub record OneMore (s : Counted) (a : ℕ) (r : Counted) : Type 0 where
 
 pub record Stepping (fs : List ℕ) (step : Step) (s r : Counted) : Type 0 where
   pub put : (o : Order) (a : ℕ) → step ≡ Put o a → OneMore s a r
-  pub stay : step ≡ Missing → r.at ≡ s.at
   pub right : (f : Operation) → step ≡ Right f → Righting fs s r
 
 -- one operator outwards: what held from behind the operator holds from it

@@ -3,15 +3,14 @@
 // into right operands that are worked out. Those of what an IF asks are gone through by a loop that counts the conditions yet to come.
 #![tactic(auto)]
 
-ghost use Rattle.std.specs.Prelude.{◌≡◌, ◌+◌, ◌≤◌, ◌<◌, length, get_or};
-ghost use Rattle.sheet_field.specs.Memory.{kind, field_in};
-ghost use Rattle.translate_size.specs.Answers.{capped, SizeOf};
+ghost use Rattle.std.specs.Prelude.{◌+◌, ◌≤◌, ◌<◌, length};
+ghost use Rattle.translate_size.specs.Answers.{SizeOf};
 ghost use Rattle.translate_size.specs.Internal.{Past, Leaf, Measuring, Stepping, Comparing, Onward, Trying, Asking, Simply, Ifs};
 
-use base::larger;
 use order::Operation;
-use sheet_field::{field_at, kind_of};
-use translate_expression::{Right, Step, leaf_at, right_at, right_step, step_at};
+use sheet::Field;
+use sheet_field::field_at;
+use translate_expression::{Step, leaf_at, right_at, right_step, step_at};
 
 // The place behind what was counted, its orders, and the temporaries that it uses.
 #[derive(Clone, Copy)]
@@ -40,16 +39,6 @@ pub struct Size {
     pub comparisons: u32,
 }
 
-// The sum, or the largest number of the type where that is more.
-fn sum(a: u32, b: u32) -> u32
-    ensures { result ≡ capped (a + b) }
-{
-    if 4294967295 - a < b {
-        return 4294967295;
-    }
-    a + b
-}
-
 // The place behind, where the array has not ended.
 fn past(fields: &[u64], at: usize) -> usize
     ensures { Past (length fields.now) at result }
@@ -60,23 +49,17 @@ fn past(fields: &[u64], at: usize) -> usize
     at
 }
 
-fn kind_at(fields: &[u64], at: usize) -> u8
-    ensures { result ≡ kind (field_in (get_or fields.now at 0)) }
-{
-    kind_of(field_at(fields, at))
-}
-
 // The leaf at the end of a run of operators.
 fn leaf_size(fields: &[u64], at: usize) -> Counted
     ensures { Leaf fields.now at result }
 {
     match right_at(fields, at) {
-        Right::Plain(_) => Counted {
+        Some(_) => Counted {
             at: at + 1,
             orders: 1,
             temporaries: 0,
         },
-        Right::WorkedOut => Counted {
+        None => Counted {
             at,
             orders: 0,
             temporaries: 0,
@@ -88,12 +71,12 @@ fn leaf_size(fields: &[u64], at: usize) -> Counted
 fn expression_size(fields: &[u64], at: usize) -> Counted
     ensures { Measuring fields.now at result }
 {
-    let mut j = leaf_at(fields, at);
-    let mut s = leaf_size(fields, j);
-    while at < j {
-        j -= 1;
-        let step = step_at(fields, j, s.at);
-        s = step_size(fields, step, s);
+    let leaf = leaf_at(fields, at);
+    let mut s = leaf_size(fields, leaf);
+    for j in (at..leaf).rev() {
+        if let Some(step) = step_at(fields, j, s.at) {
+            s = step_size(fields, step, s);
+        }
     }
     s
 }
@@ -106,18 +89,18 @@ fn step_size(fields: &[u64], step: Step, s: Counted) -> Counted
     match step {
         Step::Put(_, at) => Counted {
             at,
-            orders: sum(s.orders, 1),
-            temporaries: s.temporaries,
+            orders: s.orders.saturating_add(1),
+            ..s
         },
         Step::Right(_) => {
             let second = expression_size(fields, s.at);
+            let beside = second.temporaries.saturating_add(1).max(2);
             Counted {
                 at: second.at,
-                orders: sum(sum(s.orders, second.orders), 4),
-                temporaries: larger(s.temporaries, larger(2, sum(second.temporaries, 1))),
+                orders: s.orders.saturating_add(second.orders).saturating_add(4),
+                temporaries: s.temporaries.max(beside),
             }
         }
-        Step::Missing => s,
     }
 }
 
@@ -129,34 +112,34 @@ fn comparison_size(fields: &[u64], at: usize) -> Counted
     let step = right_step(fields, Operation::Cmp, first.at);
     let both = step_size(fields, step, first);
     Counted {
-        at: both.at,
-        orders: sum(both.orders, 1),
-        temporaries: both.temporaries,
+        orders: both.orders.saturating_add(1),
+        ..both
     }
 }
 
-// One more field of what an IF asks. For a run, whose kind is 27 or 28, two conditions are to come instead of one, and so there is
-// one comparison more; any other is a comparison's, whose orders are counted.
+// One more field of what an IF asks. For a run, two conditions are to come instead of one, and so there is one comparison more; any
+// other is a comparison's, whose orders are counted.
 fn one_more(fields: &[u64], s: Asked) -> Asked
     requires { (0 < s.left) × (s.left ≤ s.at + 1) }
     ensures { Onward fields.now s result }
 {
-    if 27 <= kind_at(fields, s.at) {
-        return Asked {
+    match field_at(fields, s.at) {
+        Field::Run(_, _) => Asked {
             at: past(fields, s.at),
             left: s.left + 1,
-            orders: s.orders,
-            temporaries: s.temporaries,
-            comparisons: sum(s.comparisons, 1),
-        };
-    }
-    let c = comparison_size(fields, s.at);
-    Asked {
-        at: c.at,
-        left: s.left - 1,
-        orders: sum(s.orders, c.orders),
-        temporaries: larger(s.temporaries, c.temporaries),
-        comparisons: s.comparisons,
+            comparisons: s.comparisons.saturating_add(1),
+            ..s
+        },
+        _ => {
+            let c = comparison_size(fields, s.at);
+            Asked {
+                at: c.at,
+                left: s.left - 1,
+                orders: s.orders.saturating_add(c.orders),
+                temporaries: s.temporaries.max(c.temporaries),
+                comparisons: s.comparisons,
+            }
+        }
     }
 }
 
@@ -186,11 +169,8 @@ pub fn condition_size(fields: &[u64], at: usize) -> Asked
         return c;
     }
     Asked {
-        at: c.at,
-        left: c.left,
-        orders: sum(c.orders, 1),
-        temporaries: c.temporaries,
-        comparisons: c.comparisons,
+        orders: c.orders.saturating_add(1),
+        ..c
     }
 }
 
@@ -198,18 +178,19 @@ pub fn condition_size(fields: &[u64], at: usize) -> Asked
 fn simple_size(fields: &[u64], at: usize) -> Counted
     ensures { Simply fields.now at result }
 {
-    if kind_at(fields, at) == 26 {
-        return Counted {
+    match field_at(fields, at) {
+        Field::Goto(_) => Counted {
             at: past(fields, at),
             orders: 1,
             temporaries: 0,
-        };
-    }
-    let e = expression_size(fields, past(fields, at));
-    Counted {
-        at: e.at,
-        orders: sum(e.orders, 1),
-        temporaries: e.temporaries,
+        },
+        _ => {
+            let e = expression_size(fields, past(fields, at));
+            Counted {
+                orders: e.orders.saturating_add(1),
+                ..e
+            }
+        }
     }
 }
 
@@ -228,22 +209,24 @@ fn if_size(fields: &[u64]) -> Size
         };
     }
     let u = simple_size(fields, p);
-    let orders = sum(c.orders, u.orders);
-    let temporaries = larger(c.temporaries, u.temporaries);
-    if kind_at(fields, u.at) == 0 {
-        let w = simple_size(fields, past(fields, u.at));
-        return Size {
-            orders: sum(sum(orders, w.orders), 1),
-            temporaries: larger(temporaries, w.temporaries),
-            instructions: 3,
+    let orders = c.orders.saturating_add(u.orders);
+    let temporaries = c.temporaries.max(u.temporaries);
+    match field_at(fields, u.at) {
+        Field::Else => {
+            let w = simple_size(fields, past(fields, u.at));
+            Size {
+                orders: orders.saturating_add(w.orders).saturating_add(1),
+                temporaries: temporaries.max(w.temporaries),
+                instructions: 3,
+                comparisons: c.comparisons,
+            }
+        }
+        _ => Size {
+            orders,
+            temporaries,
+            instructions: 2,
             comparisons: c.comparisons,
-        };
-    }
-    Size {
-        orders,
-        temporaries,
-        instructions: 2,
-        comparisons: c.comparisons,
+        },
     }
 }
 
@@ -251,14 +234,16 @@ fn if_size(fields: &[u64]) -> Size
 pub fn size_of(fields: &[u64]) -> Size
     ensures { SizeOf fields.now result }
 {
-    if kind_at(fields, 0) == 3 {
-        return if_size(fields);
-    }
-    let u = simple_size(fields, 0);
-    Size {
-        orders: u.orders,
-        temporaries: u.temporaries,
-        instructions: 1,
-        comparisons: 0,
+    match field_at(fields, 0) {
+        Field::If => if_size(fields),
+        _ => {
+            let u = simple_size(fields, 0);
+            Size {
+                orders: u.orders,
+                temporaries: u.temporaries,
+                instructions: 1,
+                comparisons: 0,
+            }
+        }
     }
 }

@@ -1,2 +1,3 @@
+pub mod Ordered
 pub mod Rounding
 pub mod Squaring

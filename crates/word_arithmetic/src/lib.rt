@@ -3,19 +3,32 @@
 
 ghost use Rattle.std.specs.Prelude.{◌≡◌, pos, negsuc, neg_ℤ, ◌≢◌, unsigned_abs};
 ghost use Rattle.word.specs.Word.{sum, difference, product, negation, and_bits, or_bits, xor_bits, not_bits};
-ghost use Rattle.word.specs.Word.{signed, word, related, related_to_zero, comparison, rounded, quotient, power, shift_left, shift_right};
-ghost use Rattle.word_arithmetic.specs.Answers.{outcome};
+ghost use Rattle.word.specs.Word.{signed, word, related_to_zero, comparison, rounded, quotient, power, shift_left, shift_right};
+ghost use Rattle.word_arithmetic.specs.Answers.{number, outcome};
 ghost use Rattle.word_arithmetic.specs.Internal.{outward as spec-outward, PowerOf};
 
+use std::cmp::Ordering;
 use word::Relation;
 
-// What an operation that may fault answers. specs/Answers.antt gives each case its number.
-#[derive(Clone, Copy)]
-pub enum Answer {
-    Value(u32),
+// Why an operation gives no word.
+#[derive(Clone, Copy, PartialEq, Eq, Debug)]
+pub enum Fault {
     ZeroDivisor,
     NegativeExponent,
     ShiftCount,
+}
+
+impl Fault {
+    // Document 01's number of the fault.
+    pub fn number(self) -> u32
+        ensures { result ≡ number self }
+    {
+        match self {
+            Fault::ZeroDivisor => 1,
+            Fault::NegativeExponent => 2,
+            Fault::ShiftCount => 3,
+        }
+    }
 }
 
 pub fn add(a: u32, b: u32) -> u32
@@ -93,40 +106,27 @@ pub fn bit_not(a: u32) -> u32
 }
 
 // Comparison goes by the integers themselves: their difference could wrap.
-fn below(a: u32, b: u32) -> bool
-    ensures { result ≡ related Relation.Less a b }
-{
-    to_signed(a) < to_signed(b)
-}
-
-fn at_most(a: u32, b: u32) -> bool
-    ensures { result ≡ related Relation.AtMost a b }
-{
-    to_signed(a) <= to_signed(b)
-}
-
 pub fn cmp(a: u32, b: u32) -> u32
     ensures { result ≡ comparison a b }
 {
-    if below(a, b) {
-        return 4294967295;
+    match to_signed(a).cmp(&to_signed(b)) {
+        Ordering::Less => 4294967295,
+        Ordering::Equal => 0,
+        Ordering::Greater => 1,
     }
-    if a == b {
-        return 0;
-    }
-    1
 }
 
 pub fn to_zero(relation: Relation, a: u32) -> bool
     ensures { result ≡ related_to_zero relation a }
 {
+    let x = to_signed(a);
     match relation {
         Relation::Equal => a == 0,
         Relation::Unequal => a != 0,
-        Relation::Less => below(a, 0),
-        Relation::AtMost => at_most(a, 0),
-        Relation::Greater => below(0, a),
-        Relation::AtLeast => at_most(0, a),
+        Relation::Less => x < 0,
+        Relation::AtMost => x <= 0,
+        Relation::Greater => 0 < x,
+        Relation::AtLeast => 0 <= x,
     }
 }
 
@@ -160,16 +160,16 @@ fn nearest(x: i32, y: i32) -> i32
 }
 
 // Division by -1 is the negation, so that the least word's quotient wraps to itself; every other quotient is a word.
-pub fn div(a: u32, b: u32) -> Answer
+pub fn div(a: u32, b: u32) -> Result<u32, Fault>
     ensures { outcome result ≡ quotient a b }
 {
     if b == 0 {
-        return Answer::ZeroDivisor;
+        return Err(Fault::ZeroDivisor);
     }
     if b == 4294967295 {
-        return Answer::Value(neg(a));
+        return Ok(neg(a));
     }
-    Answer::Value(to_word(nearest(to_signed(a), to_signed(b))))
+    Ok(to_word(nearest(to_signed(a), to_signed(b))))
 }
 
 // A power, and the number of products that it took.
@@ -202,35 +202,34 @@ fn power_of(a: u32, n: u32) -> Power
     }
 }
 
-pub fn pow(a: u32, n: u32) -> Answer
+pub fn pow(a: u32, n: u32) -> Result<u32, Fault>
     ensures { outcome result ≡ power a n }
 {
-    if below(n, 0) {
-        return Answer::NegativeExponent;
+    if to_signed(n) < 0 {
+        return Err(Fault::NegativeExponent);
     }
-    let p = power_of(a, n);
-    Answer::Value(p.word)
+    Ok(power_of(a, n).word)
 }
 
 // A shift count is 0 to 31.
 const SHIFT_COUNTS: u32 = 32;
 
-pub fn shl(a: u32, n: u32) -> Answer
+pub fn shl(a: u32, n: u32) -> Result<u32, Fault>
     ensures { outcome result ≡ shift_left a n }
 {
     if n < SHIFT_COUNTS {
-        Answer::Value(a << n)
+        Ok(a << n)
     } else {
-        Answer::ShiftCount
+        Err(Fault::ShiftCount)
     }
 }
 
-pub fn shr(a: u32, n: u32) -> Answer
+pub fn shr(a: u32, n: u32) -> Result<u32, Fault>
     ensures { outcome result ≡ shift_right a n }
 {
     if n < SHIFT_COUNTS {
-        Answer::Value(a >> n)
+        Ok(a >> n)
     } else {
-        Answer::ShiftCount
+        Err(Fault::ShiftCount)
     }
 }

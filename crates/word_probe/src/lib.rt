@@ -8,7 +8,7 @@ ghost use Rattle.word_arithmetic.specs.Answers.{outcome};
 ghost use Rattle.word_probe.specs.Reply.{reply, truth, relation_of};
 
 use word::Relation;
-use word_arithmetic::Answer;
+use word_arithmetic::Fault;
 
 #[unsafe(no_mangle)]
 pub extern "C" fn word_probe_add(a: u32, b: u32) -> u32
@@ -90,21 +90,15 @@ fn relation(number: u32) -> Relation
 pub extern "C" fn word_probe_to_zero(number: u32, a: u32) -> u32
     ensures { result ≡ truth (related_to_zero (relation_of number) a) }
 {
-    if word_arithmetic::to_zero(relation(number), a) {
-        1
-    } else {
-        0
-    }
+    word_arithmetic::to_zero(relation(number), a) as u32
 }
 
-fn pack(a: Answer) -> u64
+fn pack(a: Result<u32, Fault>) -> u64
     ensures { result ≡ reply (outcome a) }
 {
     match a {
-        Answer::Value(w) => w as u64,
-        Answer::ZeroDivisor => 4294967296,
-        Answer::NegativeExponent => 8589934592,
-        Answer::ShiftCount => 12884901888,
+        Ok(w) => w as u64,
+        Err(fault) => fault.number() as u64 * 4294967296,
     }
 }
 

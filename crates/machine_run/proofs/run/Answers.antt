@@ -1,4 +1,3 @@
-use Prim.Native.Nat.{◌-◌}
 use mathlib.Core.Path.{sym}
 use Rattle.machine.proofs.Steps.{ended_stays}
 use Rattle.machine_run.proofs.Looping.{again, stopped, broke_off, out_of_budget_law}

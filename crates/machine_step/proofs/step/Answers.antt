@@ -7,6 +7,6 @@ returns c =
     c.carry_out.ensures
     ∙ step_carried
     c.args.orders.now _ _ _ _ _
-    c.fetch-w.ensures
+    c.at-w.ensures
     c.wrapping_add_usize.ensures.value
     (omega (arith, c.well_formed.0))

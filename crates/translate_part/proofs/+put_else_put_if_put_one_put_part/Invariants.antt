@@ -1,5 +1,4 @@
 use Prim.Native.Nat.{◌+◌, ◌*◌, ◌-◌}
-use mathlib.Core.Path.{◌≡◌}
 use lib.ListN.{length}
 use Rattle.translate_part.proofs.Turns.{Loop}
 use Rattle.translate_part.proofs.+put_else_put_if_put_one_put_part.Given as goal
@@ -17,7 +16,7 @@ abbrev pub decreases-put_part : goal.decreases-put_part
 decreases-put_part l = 4 * (length l.fields.now - l.at) + 1
 
 abbrev pub invariant-put_part-loop-r : goal.invariant-put_part-loop-r
-invariant-put_part-loop-r l = Loop l.fields l.word l.initial.s l.initial.out l.s l.out × (length l.out ≡ length l.initial.out)
+invariant-put_part-loop-r l = Loop l.fields l.word l.initial.s l.initial.out l.s l.out
 
 abbrev pub decreases-put_part-loop-r : goal.decreases-put_part-loop-r
 decreases-put_part-loop-r l = length l.fields - l.s.at

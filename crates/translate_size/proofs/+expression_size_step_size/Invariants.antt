@@ -10,7 +10,4 @@ abbrev pub decreases-step_size : goal.decreases-step_size
 decreases-step_size l = 2 * (length l.fields.now - l.s.at) + 1
 
 abbrev pub invariant-expression_size-loop-j : goal.invariant-expression_size-loop-j
-invariant-expression_size-loop-j l = Outwards l.fields l.at l.initial.j l.initial.s l.j l.s
-
-abbrev pub decreases-expression_size-loop-j : goal.decreases-expression_size-loop-j
-decreases-expression_size-loop-j l = l.j
+invariant-expression_size-loop-j l = Outwards l.fields l.at l.leaf l.initial.s l.j l.s

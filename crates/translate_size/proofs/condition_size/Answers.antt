@@ -5,4 +5,4 @@ pub returns-then-c-le1 : goal.returns-then-c-le1
 returns-then-c-le1 c = single_counted _ _ _ c.trying_size-c.ensures c.if-c-le1.true
 
 pub returns : goal.returns
-returns c = run_counted _ _ _ c.trying_size-c.ensures c.if-c-le1.false _ c.sum.ensures
+returns c = run_counted _ _ _ c.trying_size-c.ensures c.if-c-le1.false _ c.saturating_add.ensures

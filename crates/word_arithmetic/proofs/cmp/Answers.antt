@@ -1,15 +1,11 @@
-use Rattle.base.proofs.Cases.{cases}
-use Rattle.word.specs.Word.{comparison, word, wrap}
+use Rattle.word_arithmetic.proofs.Ordered.{less, equal, greater}
 use Rattle.word_arithmetic.proofs.cmp.Goals as goal
 
-pub returns-then-below : goal.returns-then-below
-unfolding comparison word wrap
-returns-then-below c = search cases depth 16
+pub returns-in-Less : goal.returns-in-Less
+returns-in-Less c = less c.args.a c.args.b c.ranges.a.fits c.ranges.b.fits _ _ c.to_signed.ensures c.to_signed-2.ensures c.in-Less.ensures
 
-pub returns-then-a-b : goal.returns-then-a-b
-unfolding comparison
-returns-then-a-b c = search cases depth 16
+pub returns-in-Equal : goal.returns-in-Equal
+returns-in-Equal c = equal c.args.a c.args.b c.ranges.a.fits c.ranges.b.fits _ _ c.to_signed.ensures c.to_signed-2.ensures c.in-Equal.ensures
 
-pub returns : goal.returns
-unfolding comparison
-returns c = search cases depth 16
+pub returns-in-Greater : goal.returns-in-Greater
+returns-in-Greater c = greater c.args.a c.args.b c.ranges.a.fits c.ranges.b.fits _ _ c.to_signed.ensures c.to_signed-2.ensures c.in-Greater.ensures
