@@ -6,6 +6,7 @@ use native.Mathlib.Omega.{arith}
 use native.Mathlib.Nat.{zero-add}
 use lib.ListN.{length, take, length-map}
 use lib.Seq.{sets}
+use Rattle.std.specs.Prelude.{Option, Some, None, unwrap_or}
 use Rattle.base.proofs.Lists.{take_sets}
 use Rattle.order.specs.declared.Order.{Order}
 use Rattle.order.specs.Limits.{most_orders}
@@ -19,7 +20,6 @@ use Rattle.sheet.specs.ReadBack.{Given, given, none, untranslate}
 use Rattle.sheet.proofs.ReadBack.{given_translates}
 use Rattle.sheet_field.specs.Memory.{fields_at, most_fields}
 use Rattle.untranslate.specs.declared.Untranslated.{Untranslated}
-use Rattle.untranslate.specs.declared.Untranslated.TheVariants.{Sheet as Read, Missing}
 use Rattle.untranslate.specs.Answers.{Answers, Untranslates}
 use Rattle.sheet_text.specs.Answers.{InMemory}
 use Rattle.sheet_text.specs.TextOfFields.{text_of_fields}
@@ -32,11 +32,14 @@ use Rattle.call_read_back.specs.Internal.{SheetWritten}
 
 -- ---- the sheet that is read back
 
-module _ (ws : List ℕ) (v t : ℕ) (zeros : List ℕ) (long : length zeros ≡ most_fields) (a : Untranslated) (fields : List ℕ) (told : Untranslates ws v t zeros a fields)
+abbrev read_sheet : ℕ → ℕ → Untranslated
+read_sheet k n = record { instructions = k; fields = n }
+
+module _ (ws : List ℕ) (v t : ℕ) (zeros : List ℕ) (long : length zeros ≡ most_fields) (a : Option Untranslated) (fields : List ℕ) (told : Untranslates ws v t zeros a fields)
     (os : List Order) (fine : Good v t os) (held : ws ≡ map order_word os) where
   written_for :
       (k n : ℕ) (before : List ℕ) (r : ℕ) (after : List ℕ)
-      → a ≡ Read k n
+      → a ≡ Some (read_sheet k n)
       → wrote r after ≡ text_writing 32 (text_of_fields v k (fields_at 0 (take n fields))) before
       → (g : Given)
       → untranslate v t os ≡ g
@@ -44,7 +47,7 @@ module _ (ws : List ℕ) (v t : ℕ) (zeros : List ℕ) (long : length zeros ≡
       → wrote r after ≡ sheet_call g before
   written_for k n before r after e written none is h = let z : ◌≡◌ {A = ℕ} 0 1 = cc in absurd (omega (arith, z))
   written_for k n before r after e written (given s) is h =
-      let both : Read k n ≡ Read (count (instructions s)) (length (sheet_fields s)) = sym e ∙ h.0 in
+      let both : Some (read_sheet k n) ≡ Some (read_sheet (count (instructions s)) (length (sheet_fields s))) = sym e ∙ h.0 in
       let counted : k ≡ count (instructions s) = cc in
       let many : n ≡ length (sheet_fields s) = cc in
       let translates = given_translates v t os s fine is in
@@ -57,16 +60,16 @@ module _ (ws : List ℕ) (v t : ℕ) (zeros : List ℕ) (long : length zeros ≡
 
   pub sheet_call_law :
       (k n : ℕ) (before : List ℕ) (r : ℕ) (after : List ℕ)
-      → a ≡ Read k n
+      → a ≡ Some (read_sheet k n)
       → wrote r after ≡ text_writing 32 (text_of_fields v k (fields_at 0 (take n fields))) before
       → wrote r after ≡ sheet_call (untranslate v t os) before
   sheet_call_law k n before r after e written = written_for k n before r after e written (untranslate v t os) refl (told.of os fine held long)
 
-  missing_for : (buffer : List ℕ) → a ≡ Missing → (g : Given) → Answers g a fields → wrote (reply 31 0) buffer ≡ sheet_call g buffer
+  missing_for : (buffer : List ℕ) → a ≡ None → (g : Given) → Answers g a fields → wrote (reply 31 0) buffer ≡ sheet_call g buffer
   missing_for buffer e none h = refl
   missing_for buffer e (given s) h = let both = h.0 in let z : ◌≡◌ {A = ℕ} 0 1 = cc in absurd (omega (arith, z))
 
-  pub missing_call : (buffer : List ℕ) → a ≡ Missing → wrote (reply 31 0) buffer ≡ sheet_call (untranslate v t os) buffer
+  pub missing_call : (buffer : List ℕ) → a ≡ None → wrote (reply 31 0) buffer ≡ sheet_call (untranslate v t os) buffer
   missing_call buffer e = missing_for buffer e (untranslate v t os) (told.of os fine held long)
 
 -- ---- the object that is read

@@ -9,11 +9,8 @@ ghost use Rattle.call.specs.ReadingBack.{read_back_call};
 ghost use Rattle.call_read_back.specs.Internal.{SheetWritten};
 
 use call::{front, refusal, reply};
-use object_reader::Reading;
 use order::MOST_ORDERS;
 use sheet_field::MOST_FIELDS;
-use sheet_text::Written;
-use untranslate::Untranslated;
 
 // The text of the sheet with V, a number of instructions and the fields that are lent, or 32.
 fn write_fields(fields: &[u64], v: u32, instructions: u32, sheet: &mut [u8]) -> u64
@@ -21,8 +18,8 @@ fn write_fields(fields: &[u64], v: u32, instructions: u32, sheet: &mut [u8]) -> 
         ≡ text_writing 32 (text_of_fields v instructions (fields_at 0 fields.now)) sheet.old }
 {
     match sheet_text::write(fields, v, instructions, sheet) {
-        Written::Whole(length) => length as u64,
-        Written::Short => reply(32, 0),
+        Some(length) => length as u64,
+        None => reply(32, 0),
     }
 }
 
@@ -30,12 +27,11 @@ fn write_fields(fields: &[u64], v: u32, instructions: u32, sheet: &mut [u8]) -> 
 fn write_sheet(orders: &[u64], v: u32, t: u32, sheet: &mut [u8]) -> u64
     ensures { SheetWritten orders.now v t sheet.old result sheet.new }
 {
-    let mut fields = [0u64; MOST_FIELDS];
-    let answer = untranslate::untranslate(orders, v, t, &mut fields);
-    let Untranslated::Sheet(instructions, n) = answer else {
-        return reply(31, 0);
-    };
-    write_fields(front(&fields, n), v, instructions, sheet)
+    let mut fields = [0; MOST_FIELDS];
+    match untranslate::untranslate(orders, v, t, &mut fields) {
+        Some(read) => write_fields(front(&fields, read.fields), v, read.instructions, sheet),
+        None => reply(31, 0),
+    }
 }
 
 // The sheet of an object. The reply is 0 with the length of its text, which fills the front of the buffer, or document 01's
@@ -43,10 +39,14 @@ fn write_sheet(orders: &[u64], v: u32, t: u32, sheet: &mut [u8]) -> u64
 pub fn read_back(object: &[u8], sheet: &mut [u8]) -> u64
     ensures { wrote result sheet.new ≡ read_back_call object.now sheet.old }
 {
-    let mut orders = [0u64; MOST_ORDERS as usize];
-    let reading = object_reader::read(object, &mut orders);
-    let Reading::Good(v, t, n) = reading else {
-        return refusal(reading);
-    };
-    write_sheet(front(&orders, n as usize), v, t, sheet)
+    let mut orders = [0; MOST_ORDERS as usize];
+    match object_reader::read(object, &mut orders) {
+        Ok(frame) => write_sheet(
+            front(&orders, frame.orders as usize),
+            frame.variables,
+            frame.temporaries,
+            sheet,
+        ),
+        Err(reason) => refusal(reason),
+    }
 }

@@ -6,6 +6,7 @@ use mathlib.Core.List.{List, [], ◌∷◌, ◌++◌, map}
 use native.Mathlib.Omega.{arith}
 use native.Mathlib.Nat.{zero-add}
 use lib.ListN.{length, take, length-map}
+use Rattle.std.specs.Prelude.{Option, Some}
 use lib.Dec.{eqb}
 use Rattle.std.specs.List.{starts_with}
 use Rattle.std.proofs.lemmas.Slice.Eq.{slice_eq-Decides}
@@ -27,7 +28,6 @@ use Rattle.sheet.specs.Within.{PartFormed}
 use Rattle.sheet_field.specs.Memory.{carried, field_word, field_in, fields_at, most_fields}
 use Rattle.sheet_field.proofs.Stored.{field_in_law}
 use Rattle.translate.specs.declared.Translated.{Translated}
-use Rattle.translate.specs.declared.Translated.TheVariants.{Whole}
 use Rattle.translate.specs.Answers.{TranslatesTo, Translates}
 use Rattle.untranslate.specs.Internal.{AgainOf}
 
@@ -87,7 +87,7 @@ module _ (v n : ℕ) (few : v ≤ most_variables) (small : n ≤ most_fields) wh
 
 -- ---- the translation made again
 
-module _ (fs : List ℕ) (v t : ℕ) (os zeros : List ℕ) (long : length zeros ≡ most_orders) (r : Translated) (out : List ℕ) (made : Translates fs v zeros r out)
+module _ (fs : List ℕ) (v t : ℕ) (os zeros : List ℕ) (long : length zeros ≡ most_orders) (r : Option Translated) (out : List ℕ) (made : Translates fs v zeros r out)
     (x : Part) (formed : PartFormed v (count x) x) (same : fields_at 0 fs ≡ part_fields x) (few : v ≤ most_variables) (small : length fs ≤ most_fields) where
   ws : List ℕ
   ws = map order_word (translation (sheet v x))
@@ -95,13 +95,12 @@ module _ (fs : List ℕ) (v t : ℕ) (os zeros : List ℕ) (long : length zeros 
   it : TranslatesTo v x zeros r out
   it = made.of x formed same few small long
 
-  module _ (most n : ℕ) (e : r ≡ Whole most n) where
-    told : length (translation (sheet v x)) ≤ most_orders → (most ≡ temporaries_of x) × (n ≡ length (translation (sheet v x)))
+  module _ (a : Translated) (e : r ≡ Some a) where
+    told : length (translation (sheet v x)) ≤ most_orders → (a.temporaries ≡ temporaries_of x) × (a.orders ≡ length (translation (sheet v x)))
     told room =
-        let both : Whole most n ≡ Whole (temporaries_of x) (length (translation (sheet v x))) = sym e ∙ (it.whole room).0 in
-        let first : most ≡ temporaries_of x = cc in
-        let second : n ≡ length (translation (sheet v x)) = cc in
-        (first, second)
+        let both : Some a ≡ Some (record { temporaries = temporaries_of x; orders = length (translation (sheet v x)) }) = sym e ∙ (it.whole room).0 in
+        let same : a ≡ record { temporaries = temporaries_of x; orders = length (translation (sheet v x)) } = cc in
+        (ap (λ q. q.temporaries) same, ap (λ q. q.orders) same)
 
     front : (room : length (translation (sheet v x)) ≤ most_orders) → take (length (map order_word (translation (sheet v x)))) out ≡ map order_word (translation (sheet v x))
     front room =
@@ -115,7 +114,7 @@ module _ (fs : List ℕ) (v t : ℕ) (os zeros : List ℕ) (long : length zeros 
         (λ over. let both = it.over (λ room. omega arith) in let z : ◌≡◌ {A = ℕ} 0 1 = cc in absurd (omega arith))
         (λ room. room)
 
-    pub again_compared : most ≡ t → n ≡ length os → (b : Bool) → b ≡ starts_with eqb out os → AgainOf v x t os b
+    pub again_compared : a.temporaries ≡ t → a.orders ≡ length os → (b : Bool) → b ≡ starts_with eqb out os → AgainOf v x t os b
     again_compared used counted b compared =
         let same = slice_eq-Decides Decides-eqb os (take (length os) out) b compared in
         record {

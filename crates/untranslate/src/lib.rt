@@ -8,7 +8,7 @@ ghost use Rattle.untranslate.specs.Answers.{Untranslates};
 
 use order::MOST_ORDERS;
 use sheet_check::check;
-use translate::{Translated, translate};
+use translate::translate;
 use untranslate_part::guess;
 
 // A sheet: how many instructions it has, and how many fields, which fill the front of the array.
@@ -23,10 +23,10 @@ fn translates(fields: &[u64], v: u32, t: u32, orders: &[u64]) -> bool
     ensures { Again fields.now v t orders.now result }
 {
     let mut out = [0; MOST_ORDERS as usize];
-    let Translated::Whole(most, n) = translate(fields, v, &mut out) else {
+    let Some(again) = translate(fields, v, &mut out) else {
         return false;
     };
-    if most != t || n as usize != orders.len() {
+    if again.temporaries != t || again.orders as usize != orders.len() {
         return false;
     }
     out.starts_with(orders)
