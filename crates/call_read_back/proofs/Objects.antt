@@ -6,7 +6,7 @@ use native.Mathlib.Omega.{arith}
 use native.Mathlib.Nat.{zero-add}
 use lib.ListN.{length, take, length-map}
 use lib.Seq.{sets}
-use Rattle.std.specs.Prelude.{Option, Some, None, unwrap_or}
+use Rattle.std.specs.Prelude.{Option, Some, None}
 use Rattle.base.proofs.Lists.{take_sets}
 use Rattle.order.specs.declared.Order.{Order}
 use Rattle.order.specs.Limits.{most_orders}
@@ -48,8 +48,9 @@ module _ (ws : List ℕ) (v t : ℕ) (zeros : List ℕ) (long : length zeros ≡
   written_for k n before r after e written none is h = let z : ◌≡◌ {A = ℕ} 0 1 = cc in absurd (omega (arith, z))
   written_for k n before r after e written (given s) is h =
       let both : Some (read_sheet k n) ≡ Some (read_sheet (count (instructions s)) (length (sheet_fields s))) = sym e ∙ h.0 in
-      let counted : k ≡ count (instructions s) = cc in
-      let many : n ≡ length (sheet_fields s) = cc in
+      let same : read_sheet k n ≡ read_sheet (count (instructions s)) (length (sheet_fields s)) = cc in
+      let counted : k ≡ count (instructions s) = ap (λ q. q.instructions) same in
+      let many : n ≡ length (sheet_fields s) = ap (λ q. q.fields) same in
       let translates = given_translates v t os s fine is in
       let memory : InMemory s (take n fields) v k = record {
         fields = ap (λ j. fields_at 0 (take j fields)) many ∙ h.1;

@@ -1,5 +1,5 @@
 use mathlib.Core.Path.{refl}
-use Rattle.call_read_back.proofs.Objects.{sheet_call_law, missing_call}
+use Rattle.call_read_back.proofs.Objects.{sheet_call_law}
 use Rattle.call_read_back.proofs.write_sheet.Goals as goal
 
 pub returns-in-Some : goal.returns-in-Some
