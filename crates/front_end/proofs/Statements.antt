@@ -117,19 +117,19 @@ module _ {source : List ℕ} {ns : NameTable} {ls gs fs : List ℕ} {at k : ℕ}
           (λ r. on_outcome r (λ q. program q (suc k) (statements_from Plain [] (drop n.behind source))))
           (ap (λ j. statement g.so_far j (held n.statement)) (sym (add-one k)) ∙ s)
 
-      module _ {ns' : NameTable} {ls' gs' fs' : List ℕ} {r : Result Step Failure} (one : Comes (Steps (λ o m. Holds o m ns' ls' gs' fs') (Held p fs')) r (statement g.so_far (k + 1) (held n.statement))) where
-        pub not_read : (f : Failure) → r ≡ Err f → told (Err f) fs' ≡ answered (program nothing_read 0 (statements source))
+      module _ {ns' : NameTable} {ls' gs' fs' : List ℕ} {step : Result Step Failure} (one : Comes (Steps (λ o m. Holds o m ns' ls' gs' fs') (Held p fs')) step (statement g.so_far (k + 1) (held n.statement))) where
+        pub not_read : (f : Failure) → step ≡ Err f → told (Err f) fs' ≡ answered (program nothing_read 0 (statements source))
         unfolding on_outcome
         not_read (Refused m j) s = let t = says (rw s at one) in whole (goes_on_law t)
         not_read Unfit s = absurd (says (rw s at one))
 
-        pub is_given : r ≡ Ok Given → told (Ok (sheet_in p)) fs' ≡ answered (program nothing_read 0 (statements source))
+        pub is_given : step ≡ Ok Given → told (Ok (sheet_in p)) fs' ≡ answered (program nothing_read 0 (statements source))
         unfolding on_outcome
         is_given s =
             let t = says (rw s at one) in
             held_told t.kept ∙ whole (goes_on_law t.same)
 
-        pub is_further : (m : Progress) → r ≡ Ok (Further m) → Within source at n.behind n.statement.length → Going source n.behind (k + 1) m ns' ls' gs' fs'
+        pub is_further : (m : Progress) → step ≡ Ok (Further m) → Within source at n.behind n.statement.length → Going source n.behind (k + 1) m ns' ls' gs' fs'
         unfolding on_outcome
         is_further m s w =
             let t = says (rw s at one) in

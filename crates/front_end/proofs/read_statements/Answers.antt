@@ -31,17 +31,17 @@ loop-at-preserved c = let g = c.loop-at.invariant.5 in
       kept.labels ∙ same.2,
       kept.groups ∙ same.3,
       kept.fields ∙ same.4,
-      is_further g next.result next.ensures.read _ z one _ (c.in_ok-statement.was ∙ ap Ok c.in-Further.is) w,
+      is_further g next.result next.ensures.read _ z one _ (c.in_ok-q-in-Ok-Some.was ∙ ap Ok c.in-Further.is) w,
     )
 
-pub returns-in_err-statement : goal.returns-in_err-statement
-returns-in_err-statement c = let g = c.loop-at.invariant.5 in
+pub returns-in_err-q-in-Ok-Some : goal.returns-in_err-q-in-Ok-Some
+returns-in_err-q-in-Ok-Some c = let g = c.loop-at.invariant.5 in
     let next = c.next_statement in
     let z = c.in-Ok-Some.is ∙ ap Ok c.in-Ok-Some.field-0-is in
     let w = moved_to next.result _ next.ensures.moved z in
     let one = c.statement.ensures.short w.few g.so_far g.holds (few_statements g c.requires.few_bytes) (letters_fit g w c.requires.few_bytes) in
     let p = err_from_is_err_and c.from_residual.result c.from_residual.ensures.1 in
-    rw (p.1, p.2) (not_read g next.result next.ensures.read _ z one _ c.in_err-statement.was)
+    rw (p.1, p.2) (not_read g next.result next.ensures.read _ z one _ c.in_err-q-in-Ok-Some.was)
 
 pub overflow_cast-result : goal.overflow_cast-result
 overflow_cast-result c = let h = (counts_few c.loop-at.invariant.5.holds).few_fields in record { fits = omega (arith, h) }
@@ -52,4 +52,4 @@ returns-in-Given c = let g = c.loop-at.invariant.5 in
     let z = c.in-Ok-Some.is ∙ ap Ok c.in-Ok-Some.field-0-is in
     let w = moved_to next.result _ next.ensures.moved z in
     let one = c.statement.ensures.short w.few g.so_far g.holds (few_statements g c.requires.few_bytes) (letters_fit g w c.requires.few_bytes) in
-    is_given g next.result next.ensures.read _ z one (c.in_ok-statement.was ∙ ap Ok c.in-Given.is)
+    is_given g next.result next.ensures.read _ z one (c.in_ok-q-in-Ok-Some.was ∙ ap Ok c.in-Given.is)
