@@ -20,8 +20,7 @@ pub fn advance(a: u32, behind: usize, r: Registers) -> Registers
     Registers {
         acc: a,
         next: behind,
-        sent: r.sent,
-        ending: r.ending,
+        ..r
     }
 }
 
@@ -29,22 +28,15 @@ pub fn go_to(a: u32, r: Registers) -> Registers
     ensures { result ≡ go_to a r }
 {
     Registers {
-        acc: r.acc,
         next: a as usize,
-        sent: r.sent,
-        ending: r.ending,
+        ..r
     }
 }
 
 pub fn end_with(ending: u32, r: Registers) -> Registers
     ensures { result ≡ end_with ending r }
 {
-    Registers {
-        acc: r.acc,
-        next: r.next,
-        sent: r.sent,
-        ending,
-    }
+    Registers { ending, ..r }
 }
 
 // ---- the orders' effects
@@ -115,10 +107,9 @@ pub fn send(output: &mut [u8], behind: usize, r: Registers) -> Registers
         let start = 4 * sent as usize;
         output[start..start + 4].copy_from_slice(&r.acc.to_be_bytes());
         return Registers {
-            acc: r.acc,
             next: behind,
             sent: sent + 1,
-            ending: r.ending,
+            ..r
         };
     }
     end_with(OUTPUT_FULL, r)

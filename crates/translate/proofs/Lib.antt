@@ -1,4 +1,3 @@
-pub mod ByNumber
 pub mod Tables
 pub mod Narrowness
 pub mod Translating

@@ -1,5 +1,5 @@
 -- The loops: the table of first orders, the jumps led, the largest temporary.
-use Prim.Native.Nat.{ℕ, zero, suc, ◌+◌, ◌-◌, ◌≤◌, ◌<◌, max}
+use Prim.Native.Nat.{ℕ, zero, suc, ◌+◌, ◌≤◌, ◌<◌, max}
 use mathlib.Core.Path.{◌≡◌, refl, sym, ap, ap₂, ◌∙◌}
 use mathlib.Core.Bool.{Bool, true, false}
 use mathlib.Core.List.{List, [], ◌∷◌, ◌++◌, map, append_assoc, append-nil}
@@ -10,13 +10,10 @@ use lib.ListN.{length, get_or, set, take, drop, length-map, length-set}
 use lib.Seq.{sets, drop-cons, take-suc, set-append_seam, get_or-append_seam, length-take-le, take_all}
 use Rattle.base.specs.Choice.{pick}
 use Rattle.order.specs.declared.Order.{Order}
-use Rattle.order.specs.declared.Order.TheVariants.{Jump}
-use Rattle.order.specs.Memory.{order_word, order_in, orders_in}
+use Rattle.order.specs.Memory.{order_in, orders_in}
 use Rattle.sheet.specs.Temporaries.{stored_to, largest_stored}
 use Rattle.sheet.specs.Beginnings.{inner, is_last, of_instruction, beginnings}
-use Rattle.translate.specs.declared.Target.{Target}
-use Rattle.translate.specs.declared.Target.TheVariants.{To, Missing}
-use Rattle.translate.specs.Internal.{Noted, noted, noted_by, table_from, table, target_of, led_by, led_word}
+use Rattle.translate.specs.Internal.{Noted, noted, noted_by, table_from, table}
 
 -- ---- the table
 
@@ -57,9 +54,6 @@ unfolding pick
 note_none here o i n l e = rw e refl
 
 module _ (v : ℕ) (ws l₀ : List ℕ) where
-  pub fill_none : Filling v ws l₀ 0 0 true 0 l₀
-  fill_none = record { ahead = refl; few = omega arith; inside = omega arith }
-
   pub fill_more :
       (i n : ℕ) (here : Bool) (k : ℕ) (l : List ℕ)
       → Filling v ws l₀ i n here k l
@@ -170,43 +164,3 @@ largest_more v ws i t h = rw (drop-cons ws i 0 h, add-one i) (omega arith)
 pub largest_ends : (v : ℕ) (ws : List ℕ) (i t : ℕ) → length ws ≤ i → max t (largest_stored v (orders_in (drop i ws))) ≡ t
 unfolding largest_stored
 largest_ends v ws i t h = rw (drop_ended ws i h) (omega arith)
-
--- ---- what is noted, looked up
-
-pub noted_there : (l : List ℕ) (n k d : ℕ) → k < n → k < length l → get_or l k 0 ≡ get_or (take n l) k d
-noted_there [] n k d h g = absurd (omega arith)
-noted_there (x ∷ l) zero k d h g = absurd (omega arith)
-noted_there (x ∷ l) (suc n) zero d h g = refl
-noted_there (x ∷ l) (suc n) (suc k) d h g = noted_there l n k d (omega arith) (omega arith)
-
-pub noted_over : (l : List ℕ) (n k d : ℕ) → n ≤ k → d ≡ get_or (take n l) k d
-noted_over [] zero k d h = refl
-noted_over [] (suc n) k d h = refl
-noted_over (x ∷ l) zero k d h = refl
-noted_over (x ∷ l) (suc n) zero d h = absurd (omega arith)
-noted_over (x ∷ l) (suc n) (suc k) d h = noted_over l n k d (omega arith)
-
-pub noted_past : (l : List ℕ) (n k d : ℕ) → length l ≤ k → d ≡ get_or (take n l) k d
-noted_past [] zero k d h = refl
-noted_past [] (suc n) k d h = refl
-noted_past (x ∷ l) zero k d h = refl
-noted_past (x ∷ l) (suc n) zero d h = absurd (omega arith)
-noted_past (x ∷ l) (suc n) (suc k) d h = noted_past l n k d (omega arith)
-
--- ---- one order led
-
-set_same : (l : List ℕ) (i : ℕ) → i < length l → l ≡ set l i (get_or l i 0)
-set_same [] i h = absurd (omega arith)
-set_same (x ∷ l) zero h = refl
-set_same (x ∷ l) (suc i) h = ap (λ k. x ∷ k) (set_same l i (omega arith))
-
-module _ (l firsts : List ℕ) (i last : ℕ) (inside : i < length l) (o : Order) (read : o ≡ order_in (get_or l i 0)) (t : Target) (known : t ≡ target_of o) where
-  told : t ≡ target_of (order_in (get_or l i 0))
-  told = known ∙ ap target_of read
-
-  pub lead_jump : (s : ℕ) → t ≡ To s → (a w : ℕ) → a ≡ get_or firsts (s - 1) last → w ≡ order_word (Jump a)
-      → set l i w ≡ set l i (led_word firsts last (get_or l i 0))
-  lead_jump s e a w found is = ap (set l i) (is ∙ ap (λ k. order_word (Jump k)) found ∙ ap (led_by firsts last (get_or l i 0)) (sym e ∙ told))
-
-  pub lead_other : t ≡ Missing → l ≡ set l i (led_word firsts last (get_or l i 0))
-  lead_other e = set_same l i inside ∙ ap (set l i) (ap (led_by firsts last (get_or l i 0)) (sym e ∙ told))

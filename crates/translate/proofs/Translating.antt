@@ -2,6 +2,7 @@
 use Prim.Native.Nat.{ℕ, suc, ◌+◌, ◌-◌, ◌≤◌, ◌<◌}
 use mathlib.Core.Path.{◌≡◌, refl, sym, ap, ap₂, ◌∙◌}
 use mathlib.Core.Bool.{Bool, true, false}
+use Rattle.std.specs.Prelude.{None, Some}
 use mathlib.Core.List.{List, [], ◌∷◌, ◌++◌, map, append-nil}
 use native.Mathlib.Omega.{arith}
 use native.Mathlib.Nat.{zero-add}
@@ -40,8 +41,7 @@ use Rattle.translate_expression.proofs.Turns.{map_append}
 use Rattle.translate_part.specs.Internal.{unled, Parting}
 use Rattle.translate.specs.Answers.{Translates}
 use Rattle.translate.specs.declared.Translated.{Translated}
-use Rattle.translate.specs.declared.Translated.TheVariants.{Whole, Over}
-use Rattle.translate.specs.Internal.{noted, table, target_of, led_by, led_word, led_all, Finishes}
+use Rattle.translate.specs.Internal.{noted, table, led_by, led_word, led_all, Finishes}
 use Rattle.translate.proofs.Tables.{table_holds, begun_few}
 use Rattle.translate.proofs.Narrowness.{code_narrow}
 
@@ -124,9 +124,9 @@ module _ (to : ℕ → ℕ) where
 
 led_word_law : (firsts : List ℕ) (last : ℕ) (o : Order) → operand o < 4294967296
     → led_word firsts last (order_word o) ≡ order_word (led_to (λ s. get_or firsts (s - 1) last) o)
-led_word_law firsts last o h = ap (λ q. led_by firsts last (order_word o) (target_of q)) (order_in_law o h) ∙ by o
+led_word_law firsts last o h = ap (λ q. led_by firsts last (order_word o) q) (order_in_law o h) ∙ by o
   where
-    by : (o : Order) → led_by firsts last (order_word o) (target_of o) ≡ order_word (led_to (λ s. get_or firsts (s - 1) last) o)
+    by : (o : Order) → led_by firsts last (order_word o) o ≡ order_word (led_to (λ s. get_or firsts (s - 1) last) o)
     by (Word f w) = refl
     by (Number f n) = refl
     by (Store w) = refl
@@ -187,6 +187,9 @@ module _ (v : ℕ) (x : Part) (formed : PartFormed v (count x) x) (few : v ≤ m
 
 -- ---- the function
 
+abbrev told_of : ℕ → ℕ → Translated
+told_of n t = record { temporaries = t; orders = n }
+
 pub finishes :
     (v : ℕ) (ws l : List ℕ) (n : ℕ) (firsts : List ℕ) (last : ℕ) (after : List ℕ) (t : ℕ)
     → noted n firsts ≡ table v ws l
@@ -194,10 +197,10 @@ pub finishes :
     → last ≡ length ws - 1
     → after ≡ map (led_word (take n firsts) last) ws
     → t ≡ largest_stored v (orders_in after)
-    → Finishes v ws (Whole t (length ws)) after
+    → Finishes v ws (record { temporaries = t; orders = length ws }) after
 finishes v ws l n firsts last after t e room is led most = record {
   led = led ∙ ap₂ (λ k d. map (led_word k d) ws) (table_take v ws l n firsts e room) is;
-  told = ap (λ k. Whole k (length ws)) most;
+  told = ap (told_of (length ws)) most;
 }
 
 front_room : (ws : List ℕ) (k : ℕ) (out : List ℕ) → length ws ≡ k → k ≤ length out → 0 + length ws ≤ length out
@@ -226,7 +229,7 @@ module _ (fs : List ℕ) (v : ℕ) (out : List ℕ) (s : Spot) (m : List ℕ) (p
   counted : (x : Part) → length (translation (sheet v x)) ≡ size v x + 1
   counted x = length-append (part_code v (first_order v x) 0 x) (Stop ∷ []) ∙ omega (arith, code_length v (first_order v x) 0 x)
 
-  pub over_room : length m ≤ s.i → Translates fs v out Over m
+  pub over_room : length m ≤ s.i → Translates fs v out None m
   over_room full = record {
     kept = kept;
     of = λ x formed h few small long. record {
@@ -284,10 +287,10 @@ module _ (fs : List ℕ) (v : ℕ) (out : List ℕ) (s : Spot) (m : List ℕ) (p
       led_is : led ≡ map order_word (translation (sheet v x))
       led_is = finished.led ∙ ap (led_all v) front ∙ all_led v x formed few fields_few room
 
-      told_is : r ≡ Whole (temporaries_of x) (length (translation (sheet v x)))
+      told_is : Some r ≡ Some (record { temporaries = temporaries_of x; orders = length (translation (sheet v x)) })
       told_is =
-          finished.told
-          ∙ ap₂ Whole (ap (λ k. largest_stored v (orders_in k)) led_is ∙ stored v x formed few fields_few room)
+          ap Some finished.told
+          ∙ ap₂ (λ t n. Some (told_of n t)) (ap (λ k. largest_stored v (orders_in k)) led_is ∙ stored v x formed few fields_few room)
           (ap length front ∙ words_length ∙ omega (arith, place, counted x, code_length v (λ k. k) 0 x, length-map (unled v 0 x) order_word))
 
       all_is : led ++ drop (s.i + 1) m₂ ≡ sets out 0 (map order_word (translation (sheet v x)))
@@ -308,7 +311,7 @@ module _ (fs : List ℕ) (v : ℕ) (out : List ℕ) (s : Spot) (m : List ℕ) (p
         ∙ length-set m s.i (order_word Stop)
         ∙ kept
 
-    pub whole_put : Translates fs v out r (led ++ drop (s.i + 1) m₂)
+    pub whole_put : Translates fs v out (Some r) (led ++ drop (s.i + 1) m₂)
     whole_put = record {
       kept = all_kept;
       of = λ x formed h few small long. record {
@@ -316,15 +319,6 @@ module _ (fs : List ℕ) (v : ℕ) (out : List ℕ) (s : Spot) (m : List ℕ) (p
         over = λ g. absurd (g (room x formed h few small long));
       };
     }
-
-pub no_variables : (fs : List ℕ) (v : ℕ) (out : List ℕ) → most_variables < v → Translates fs v out Over out
-no_variables fs v out g = record { kept = refl; of = λ x formed h few small long. absurd (omega arith) }
-
-pub no_array : (fs : List ℕ) (v : ℕ) (out : List ℕ) → (length out ≡ most_orders → ⊥) → Translates fs v out Over out
-no_array fs v out g = record { kept = refl; of = λ x formed h few small long. absurd (g long) }
-
-pub front_some : (k : ℕ) (l : List ℕ) → k < length l → 1 ≤ length (take (k + 1) l)
-front_some k l h = omega (arith, length-take-le (k + 1) l (omega arith))
 
 pub front_few : (k : ℕ) (l : List ℕ) → k < length l → length l ≡ most_orders → length (take (k + 1) l) ≤ most_orders
 front_few k l h e = omega (arith, length-take-le (k + 1) l (omega arith))

@@ -6,10 +6,7 @@ use Rattle.order.specs.declared.Order.TheVariants.{Word, Number, Store, Neg, Not
 use Rattle.order.specs.Memory.{order_word, order_in, orders_in}
 use Rattle.sheet.specs.Temporaries.{largest_stored}
 use Rattle.sheet.specs.Beginnings.{inner, is_last, of_instruction, beginnings}
-use Rattle.translate.specs.declared.Target.{Target}
-use Rattle.translate.specs.declared.Target.TheVariants.{To, Missing}
 use Rattle.translate.specs.declared.Translated.{Translated}
-use Rattle.translate.specs.declared.Translated.TheVariants.{Whole}
 
 -- ---- the first orders of instructions, noted
 
@@ -29,30 +26,26 @@ table v ws l = table_from v true 0 0 (orders_in ws) (noted 0 l)
 
 -- ---- jumps led
 
-abbrev pub target_of : Order → Target
-target_of (Word f w) = Missing
-target_of (Number f n) = Missing
-target_of (Store w) = Missing
-target_of Neg = Missing
-target_of Not = Missing
-target_of (Jump s) = To s
-target_of (Skip a) = Missing
-target_of (Branch r a) = Missing
-target_of (Cond n) = Missing
-target_of Send = Missing
-target_of Stop = Missing
-
-abbrev pub led_by : List ℕ → ℕ → ℕ → Target → ℕ
-led_by firsts last w (To s) = order_word (Jump (get_or firsts (s - 1) last))
-led_by firsts last w Missing = w
+abbrev pub led_by : List ℕ → ℕ → ℕ → Order → ℕ
+led_by firsts last w (Word f x) = w
+led_by firsts last w (Number f n) = w
+led_by firsts last w (Store x) = w
+led_by firsts last w Neg = w
+led_by firsts last w Not = w
+led_by firsts last w (Jump s) = order_word (Jump (get_or firsts (s - 1) last))
+led_by firsts last w (Skip a) = w
+led_by firsts last w (Branch r a) = w
+led_by firsts last w (Cond n) = w
+led_by firsts last w Send = w
+led_by firsts last w Stop = w
 
 -- an order's number, with the first order of its instruction where it is a jump
 abbrev pub led_word : List ℕ → ℕ → ℕ → ℕ
-led_word firsts last w = led_by firsts last w (target_of (order_in w))
+led_word firsts last w = led_by firsts last w (order_in w)
 
 abbrev pub led_all : ℕ → List ℕ → List ℕ
 led_all v ws = map (led_word (beginnings v true 0 0 (orders_in ws)) (length ws - 1)) ws
 
 pub record Finishes (v : ℕ) (ws : List ℕ) (r : Translated) (after : List ℕ) : Type 0 where
   pub led : after ≡ led_all v ws
-  pub told : r ≡ Whole (largest_stored v (orders_in after)) (length ws)
+  pub told : r ≡ record { temporaries = largest_stored v (orders_in after); orders = length ws }

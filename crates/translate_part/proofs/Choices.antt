@@ -21,11 +21,11 @@ use Rattle.translate_expression.specs.Internal.{behind, Puts, Done}
 use Rattle.translate_expression.proofs.Turns.{puts_more}
 use Rattle.translate_size.specs.declared.Asked.{Asked}
 use Rattle.translate_size.specs.Answers.{capped}
-use Rattle.translate_size.specs.Internal.{Asking as Sized}
+use Rattle.translate_size.specs.Internal.{Past, Asking as Sized}
 use Rattle.translate_condition.specs.Internal.{Small, Asking}
 use Rattle.translate_condition.proofs.Tries.{puts_as, puts_none, small_kept}
 use Rattle.translate_part.specs.declared.Closed.{Closed}
-use Rattle.translate_part.specs.Internal.{first_opening, is_else, Past, Further, unled, Parting, Closing, Choosing}
+use Rattle.translate_part.specs.Internal.{first_opening, is_else, Further, unled, Parting, Closing, Choosing}
 use Rattle.translate_part.proofs.Rooms.{further_all_law, puts_before}
 use Rattle.translate_part.proofs.Looking.{past_fields}
 

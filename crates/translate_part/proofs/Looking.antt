@@ -8,7 +8,7 @@ use Rattle.sheet_field.specs.Memory.{fields_at}
 use Rattle.translate_expression.specs.Internal.{behind}
 use Rattle.translate_expression.proofs.Turns.{fields_behind}
 use Rattle.translate_condition.proofs.Looking.{fields_outside}
-use Rattle.translate_part.specs.Internal.{Past}
+use Rattle.translate_size.specs.Internal.{Past}
 
 pub past_fields : (fs : List ℕ) {at r : ℕ} → Past (length fs) at r → fields_at r fs ≡ behind (fields_at at fs)
 past_fields fs {at} {r} p =

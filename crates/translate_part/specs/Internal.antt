@@ -59,11 +59,6 @@ abbrev pub is_else : List Field → Bool
 is_else [] = false
 is_else (f ∷ l) = else_field f
 
-pub record Past (n at r : ℕ) : Type 0 where
-  pub on : at ≤ r
-  pub inside : at < n → r ≡ at + 1
-  pub outside : n ≤ at → r ≡ at
-
 -- ---- orders
 
 -- the code of instructions whose jumps are not led yet

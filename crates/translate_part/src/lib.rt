@@ -5,7 +5,7 @@
 
 ghost use Rattle.std.specs.Prelude.{◌≡◌, ◌<◌, length, OnSome};
 ghost use Rattle.sheet_field.specs.Memory.{fields_at};
-ghost use Rattle.translate_part.specs.Internal.{opening_of, first_opening, is_else, Past, Further};
+ghost use Rattle.translate_part.specs.Internal.{opening_of, first_opening, is_else, Further};
 ghost use Rattle.translate_part.specs.Internal.{Ending, Parting, Closing, Choosing, Turning};
 
 use order::Order;
@@ -13,7 +13,7 @@ use sheet::Field;
 use sheet_field::field_in;
 use translate_condition::{behind, put_asking};
 use translate_expression::{Spot, put_expression, put_order};
-use translate_size::condition_size;
+use translate_size::{condition_size, past};
 
 // How an instruction begins: as one with an expression, whose last order is told; as a jump to an instruction; as an IF.
 #[derive(Clone, Copy)]
@@ -56,16 +56,6 @@ fn else_at(fields: &[u64], at: usize) -> bool
     ensures { result ≡ is_else (fields_at at fields.now) }
 {
     at < fields.len() && matches!(field_in(fields[at]), Field::Else)
-}
-
-// The place behind, where the array has not ended.
-fn past(fields: &[u64], at: usize) -> usize
-    ensures { Past (length fields.now) at result }
-{
-    if at < fields.len() {
-        return at + 1;
-    }
-    at
 }
 
 // The place n orders further on in an array so long; its end, where there is no room for them.

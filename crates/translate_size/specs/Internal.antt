@@ -22,6 +22,7 @@ use Rattle.translate_size.specs.Answers.{capped, Sizes}
 pub record Past (n at r : ℕ) : Type 0 where
   pub on : at ≤ r
   pub inside : at < n → r ≡ at + 1
+  pub outside : n ≤ at → r ≡ at
 
 -- the fields l are left, and so many orders and temporaries were counted
 pub record Counts (fs : List ℕ) (l : List Field) (os ts : ℕ) (r : Counted) : Type 0 where

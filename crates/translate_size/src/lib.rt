@@ -40,7 +40,7 @@ pub struct Size {
 }
 
 // The place behind, where the array has not ended.
-fn past(fields: &[u64], at: usize) -> usize
+pub fn past(fields: &[u64], at: usize) -> usize
     ensures { Past (length fields.now) at result }
 {
     if at < fields.len() {

@@ -1,13 +1,11 @@
 -- How the function comes to a rounded quotient: from the quotient toward zero, by what is left over.
-use Rattle.std.proofs.Common.{◌≡◌, ℕ, zero, suc, ◌+◌, ◌-◌, ◌*◌, ◌/◌, ◌%◌, ◌<◌, ◌≤◌, true, false, ltb, ◌⊎◌, ℤ, pos, negsuc, ◌+ℤ◌, ◌-ℤ◌, neg_ℤ, nat_abs, sym, refl, ap, ◌∙◌, ap₂, ⊎_elim, true≢false, mod-lt, mul_assoc, suc-mul, div-add-mod', div-le_self, arith, to_z-of_z, w32, SFits, to_z, of_z, ltb-false, ltb-true, le-ltb, lt-ltb}
-use mathlib.Core.Bool.{beq, false≢true}
+use Rattle.std.proofs.Common.{◌≡◌, ℕ, zero, suc, ◌+◌, ◌-◌, ◌*◌, ◌/◌, ◌%◌, ◌<◌, ◌≤◌, true, false, ltb, ◌⊎◌, ℤ, pos, negsuc, ◌+ℤ◌, ◌-ℤ◌, neg_ℤ, nat_abs, sym, refl, ap, ◌∙◌, ap₂, ⊎_elim, mod-lt, mul_assoc, suc-mul, div-add-mod', div-le_self, arith, to_z-of_z, w32, SFits, to_z, of_z, ltb-false, ltb-true, le-ltb, lt-ltb}
 use native.Mathlib.Nat.{div-lt_self}
-use lib.IntN.{neg_ℤ-neg_ℤ, +ℤ_idl, +ℤ_idr}
+use lib.IntN.{neg_ℤ-neg_ℤ, +ℤ_idr}
 use lib.Arith.{digits_div}
 use lib.Signed.{mag, mag_rem, lt_z, quot_z, rem_z, nat_abs-le}
 use Rattle.base.proofs.Cases.{by_less}
-use Rattle.word.specs.Word.{wrap, signed, word, rounded_size, rounded}
-use Rattle.word.proofs.Patterns.{word_of_z}
+use Rattle.word.specs.Word.{signed, rounded_size, rounded}
 use Rattle.word.proofs.SignedType.{opposite_below}
 use Rattle.word.proofs.Nearest.{nat_abs_opposite, positive_size}
 use Rattle.word.proofs.Quotient.{rounded_small, quotient_in_range, signed_not_zero}
@@ -71,32 +69,11 @@ outward_small (pos a) (negsuc b) = omega arith
 outward_small (negsuc a) (pos b) = omega arith
 outward_small (negsuc a) (negsuc b) = omega arith
 
-pub one_side : (x y : ℤ) → beq (lt_z x (pos 0)) (lt_z y (pos 0)) ≡ true → pos 1 ≡ outward x y
-one_side (pos a) (pos b) t = refl
-one_side (pos a) (negsuc b) t = absurd (false≢true (rw (le-ltb a 0 (omega arith)) at t))
-one_side (negsuc a) (pos b) t = absurd (false≢true (rw (le-ltb b 0 (omega arith)) at t))
-one_side (negsuc a) (negsuc b) t = refl
-
-pub two_sides : (x y : ℤ) → beq (lt_z x (pos 0)) (lt_z y (pos 0)) ≡ false → negsuc 0 ≡ outward x y
-two_sides (pos a) (pos b) t = absurd (true≢false (rw (le-ltb a 0 (omega arith), le-ltb b 0 (omega arith)) at t))
-two_sides (pos a) (negsuc b) t = refl
-two_sides (negsuc a) (pos b) t = refl
-two_sides (negsuc a) (negsuc b) t = absurd (true≢false t)
-
 -- ---- sizes, kept below zero
-
-pub minus_above : (x : ℤ) → lt_z (pos 0) x ≡ true → pos 0 -ℤ x ≡ neg_ℤ (pos (nat_abs x))
-minus_above (pos n) t = +ℤ_idl (neg_ℤ (pos n))
-minus_above (negsuc n) t = absurd (false≢true t)
 
 pub minus_small : (x : ℤ) → mag x < 2147483648 → mag (neg_ℤ (pos (nat_abs x))) < 2147483648
 minus_small (pos n) h = omega (arith, opposite_below n n (omega arith))
 minus_small (negsuc n) h = h
-
-pub minus_rest : (x : ℤ) → lt_z (pos 0) x ≡ false → x ≡ neg_ℤ (pos (nat_abs x))
-minus_rest (pos zero) t = refl
-minus_rest (pos (suc n)) t = absurd (omega (arith, ltb-false 0 (suc n) t))
-minus_rest (negsuc n) t = refl
 
 -- n less r, and whether that is more than r
 minus_difference : (n r : ℕ) → r ≤ n → neg_ℤ (pos n) -ℤ neg_ℤ (pos r) ≡ neg_ℤ (pos (n - r))
@@ -126,12 +103,6 @@ minus_order (suc a) (suc b) =
 abbrev pub stored : ℤ → ℤ
 stored x = to_z w32 (of_z w32 x)
 
-bits_positive : (y : ℤ) → mag y < 2147483648 → (y ≡ pos 0 → ⊥) → 0 < word y
-unfolding word wrap
-bits_positive (pos zero) h z = absurd (z refl)
-bits_positive (pos (suc n)) h z = omega arith
-bits_positive (negsuc n) h z = omega arith
-
 rest_size : (x y : ℤ) → nat_abs (rem_z x y) ≡ nat_abs x % nat_abs y
 rest_size (pos a) y = refl
 rest_size (negsuc a) y = nat_abs_opposite (pos (suc a % nat_abs y))
@@ -140,9 +111,6 @@ module _ (x y : ℤ) (fits_x : SFits w32 x) (fits_y : SFits w32 y) (not_these : 
   toward_fits : SFits w32 (quot_z (stored x) (stored y))
   toward_fits =
       rw (to_z-of_z fits_x, to_z-of_z fits_y) (record { sfits = toward_zero_small x y fits_x.sfits not_these.0 not_these.1 })
-
-  pub can_divide : (0 < of_z w32 y) × SFits w32 (quot_z (stored x) (stored y))
-  can_divide = (rw (word_of_z y fits_y.sfits) (bits_positive y fits_y.sfits not_these.0), toward_fits)
 
   toward : stored (quot_z (stored x) (stored y)) ≡ quot_z x y
   toward = to_z-of_z toward_fits ∙ rw (to_z-of_z fits_x, to_z-of_z fits_y) refl

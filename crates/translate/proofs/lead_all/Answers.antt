@@ -1,6 +1,10 @@
-use native.Mathlib.Omega.{arith}
-use Rattle.translate.proofs.Tables.{lead_more}
+use mathlib.Core.Path.{ap}
+use lib.ListN.{set}
+use Rattle.translate.proofs.Tables.{lead_more, lead_ends}
 use Rattle.translate.proofs.lead_all.Goals as goal
 
-pub loop-i-preserved : goal.loop-i-preserved
-loop-i-preserved c = lead_more _ _ _ _ c.loop-i.invariant (let l = c.loop-i.invariant.long in let t = c.loop-i-test.true in omega (arith, l, t)) _ c.lead.ensures
+pub loop-w-preserved : goal.loop-w-preserved
+loop-w-preserved c = lead_more _ _ _ _ c.loop-w.invariant c.loop-w-test.true _ (ap (set c.loop-w.orders c.loop-w.w-index) c.led.ensures)
+
+pub returns : goal.returns
+returns c = lead_ends _ _ _ _ c.loop-w.invariant c.loop-w-test.false

@@ -1,11 +1,5 @@
-use Prim.Native.Nat.{◌-◌}
-use mathlib.Core.Path.{◌≡◌}
-use lib.ListN.{length}
 use Rattle.translate.proofs.Tables.{Filling}
 use Rattle.translate.proofs.note_firsts.Given as goal
 
 abbrev pub invariant-loop-i : goal.invariant-loop-i
-invariant-loop-i l = Filling l.v l.orders l.initial.firsts l.i l.n l.here l.k l.firsts × (length l.firsts ≡ length l.initial.firsts)
-
-abbrev pub decreases-loop-i : goal.decreases-loop-i
-decreases-loop-i l = length l.orders - l.i
+invariant-loop-i l = Filling l.v l.orders l.initial.firsts l.i l.n l.here l.k l.firsts
