@@ -1,6 +1,6 @@
 -- The one order whose name and kind may stand at the front of a text, and the record that is read with them.
 use Prim.Native.Nat.{ℕ, ◌+◌, ◌*◌, ◌-◌, ◌%◌, ◌<◌, ◌≤◌}
-use mathlib.Core.Path.{◌≡◌, refl, sym, ap, subst, ◌∙◌}
+use mathlib.Core.Path.{◌≡◌, refl, sym, ap, subst}
 use mathlib.Core.List.{List, ◌∷◌, ◌++◌}
 use borrow.Author.Tests.{lt-ltb, le-leb, lt-leb, eq-eqb, ne_eqb}
 use lib.Dec.{ltb, leb, eqb}
@@ -18,12 +18,12 @@ use Rattle.order.specs.Memory.{number, shapes, order_of}
 use Rattle.order.specs.Object.{heading, record_at}
 use Rattle.order.proofs.Numbers.{number_below}
 use Rattle.order.proofs.Records.{heading_read, read_heading}
-use Rattle.order_record.specs.Internal.{record_table, heading_at, number_after, Likely}
+use Rattle.order_record.specs.Internal.{numbers_by_letters, heading_at, number_after, Likely}
 
 -- ---- the number that `likely` gives: by the sum of three letters, and by the kind where it is below 24
 
 abbrev named : ℕ → ℕ → ℕ → ℕ
-named a b c = get_or record_table (304 + (10 * a + 8 * b + c) % 64) 0 % 64
+named a b c = get_or numbers_by_letters ((10 * a + 8 * b + c) % 64) 0
 
 abbrev kinded : List ℕ → ℕ → ℕ
 kinded l k = pick (leb 24 k) k (pick (eqb (get_or l (length (heading (order_of k 0)) - 2) 0) 75) (k + 12) k)
@@ -40,25 +40,22 @@ guessed_likely : (front : List ℕ) → Likely front (guessed front)
 guessed_likely front j l h e =
     rw e (each_at (λ k. guessed (take 7 (heading (order_of k 0) ++ l))) (λ k. k) 38 (all_guessed l) j h)
 
-module _ (front table : List ℕ) (own : table ≡ record_table) (a b c x : ℕ) (p : a ≡ get_or front 0 0) (q : b ≡ get_or front 1 0)
-    (r : c ≡ get_or front 2 0) (is_number : x ≡ get_or table (304 + (10 * a + 8 * b + c) % 64) 0) where
-  told : x ≡ get_or record_table (304 + (10 * a + 8 * b + c) % 64) 0
-  told = is_number ∙ ap (λ t. get_or t (304 + (10 * a + 8 * b + c) % 64) 0) own
-
-  pub likely_past : 24 ≤ x % 64 → Likely front (x % 64)
+module _ (front : List ℕ) (a b c x : ℕ) (p : a ≡ get_or front 0 0) (q : b ≡ get_or front 1 0) (r : c ≡ get_or front 2 0)
+    (told : x ≡ get_or numbers_by_letters ((10 * a + 8 * b + c) % 64) 0) where
+  pub likely_past : 24 ≤ x → Likely front x
   unfolding pick
-  likely_past e = subst (Likely front) (rw (← p, ← q, ← r, ← told, le-leb 24 (x % 64) e) refl) (guessed_likely front)
+  likely_past e = subst (Likely front) (rw (← p, ← q, ← r, ← told, le-leb 24 x e) refl) (guessed_likely front)
 
-  module _ (row : List ℕ) (d : ℕ) (below : x % 64 < 24) (m : row ≡ heading (order_of (x % 64) 0)) (k : d ≡ get_or front (length row - 2) 0) where
-    pub likely_number : d ≡ 75 → Likely front (x % 64 + 12)
+  module _ (row : List ℕ) (d : ℕ) (below : x < 24) (m : row ≡ heading (order_of x 0)) (k : d ≡ get_or front (length row - 2) 0) where
+    pub likely_number : d ≡ 75 → Likely front (x + 12)
     unfolding pick
     likely_number e =
-        subst (Likely front) (rw (← p, ← q, ← r, ← told, lt-leb 24 (x % 64) below, ← m, ← k, eq-eqb d 75 e) refl) (guessed_likely front)
+        subst (Likely front) (rw (← p, ← q, ← r, ← told, lt-leb 24 x below, ← m, ← k, eq-eqb d 75 e) refl) (guessed_likely front)
 
-    pub likely_other : (d ≡ 75 → ⊥) → Likely front (x % 64)
+    pub likely_other : (d ≡ 75 → ⊥) → Likely front x
     unfolding pick
     likely_other e =
-        subst (Likely front) (rw (← p, ← q, ← r, ← told, lt-leb 24 (x % 64) below, ← m, ← k, ne_eqb d 75 e) refl) (guessed_likely front)
+        subst (Likely front) (rw (← p, ← q, ← r, ← told, lt-leb 24 x below, ← m, ← k, ne_eqb d 75 e) refl) (guessed_likely front)
 
 -- ---- the record
 

@@ -1,5 +1,5 @@
 -- The names and kinds of the orders, as the table has them, and the records that are written with them.
-use Prim.Native.Nat.{ℕ, ◌+◌, ◌*◌, ◌%◌, ◌<◌, ◌≤◌}
+use Prim.Native.Nat.{ℕ, ◌+◌, ◌*◌, ◌<◌, ◌≤◌}
 use mathlib.Core.Path.{◌≡◌, refl, sym, ap, ◌∙◌}
 use mathlib.Core.Bool.{Bool, true}
 use mathlib.Core.List.{List, map}
@@ -21,12 +21,12 @@ use Rattle.order.specs.Memory.{number, shapes, order_of}
 use Rattle.order.specs.Object.{heading, record_text}
 use Rattle.order.proofs.Numbers.{order_again}
 use Rattle.order.proofs.Records.{heading_at_law}
-use Rattle.order_record.specs.Internal.{record_table}
+use Rattle.order_record.specs.Internal.{heading_rows, heading_lengths}
 
 -- ---- headings
 
--- the length of each, by its digit; and that it is 2 to 7
-all_lengths : each (λ k. get_or record_table (266 + k) 0 % 16) 0 38 ≡ each (λ k. length (heading (order_of k 0))) 0 38
+-- the length of each; and that it is 2 to 7
+all_lengths : each (λ k. get_or heading_lengths k 0) 0 38 ≡ each (λ k. length (heading (order_of k 0))) 0 38
 unfolding each bytes order_of shapes
 all_lengths = refl
 
@@ -46,22 +46,20 @@ module _ (k : ℕ) where
   heading_long = omega (arith, ltb-true 1 (length (heading (order_of k 0))) (each_passes (λ n. ltb 1 n) refl refl))
 
 -- each stands in its row of seven bytes
-all_rows : each (λ k. take (length (heading (order_of k 0))) (drop (7 * k) record_table)) 0 38 ≡ each (λ k. heading (order_of k 0)) 0 38
+all_rows : each (λ k. take (length (heading (order_of k 0))) (drop (7 * k) heading_rows)) 0 38 ≡ each (λ k. heading (order_of k 0)) 0 38
 unfolding each bytes order_of shapes
 all_rows = refl
 
--- so the part of the table that begins there and has that length is the heading
+-- so the part of the rows that begins there and has that length is the heading
 pub row_here :
-    (table row : List ℕ) (k x : ℕ)
-    → table ≡ record_table
-    → x ≡ get_or table (266 + k) 0
-    → row ≡ take (x % 16) (drop (7 * k) table)
+    (row : List ℕ) (k : ℕ)
+    → row ≡ take (get_or heading_lengths k 0) (drop (7 * k) heading_rows)
     → k < 38
     → row ≡ heading (order_of k 0)
-row_here table row k x own e here h =
-    let long = each_at (λ j. get_or record_table (266 + j) 0 % 16) (λ j. length (heading (order_of j 0))) 38 all_lengths k h in
-    rw (here, e, own, long)
-    (each_at (λ j. take (length (heading (order_of j 0))) (drop (7 * j) record_table)) (λ j. heading (order_of j 0)) 38 all_rows k h)
+row_here row k here h =
+    let long = each_at (λ j. get_or heading_lengths j 0) (λ j. length (heading (order_of j 0))) 38 all_lengths k h in
+    rw (here, long)
+    (each_at (λ j. take (length (heading (order_of j 0))) (drop (7 * j) heading_rows)) (λ j. heading (order_of j 0)) 38 all_rows k h)
 
 -- ---- a record
 

@@ -1,5 +1,5 @@
 -- What the answers of the functions stand for. A reader of the promises needs none of it.
-use Rattle.std.specs.Prelude.{ℕ, ◌<◌, ◌≡◌, List, ◌++◌, Option, Some, None, ltb, eqb, take, drop}
+use Rattle.std.specs.Prelude.{ℕ, ◌<◌, ◌≡◌, List, [], ◌∷◌, ◌++◌, Option, Some, None, ltb, eqb, take, drop}
 use Rattle.base.specs.Choice.{pick}
 use Rattle.base.specs.Text.{bytes}
 use Rattle.base.specs.Front.{found, missing, on_front}
@@ -9,11 +9,19 @@ use Rattle.order.specs.Order.{operand}
 use Rattle.order.specs.Memory.{order_of}
 use Rattle.order.specs.Object.{heading}
 
--- what is known of the orders, by their numbers: their names and kinds, the lengths of these, and numbers by letters
-abbrev pub record_table : List ℕ
-record_table =
+-- the names and kinds of the orders, by their numbers, each in a row of seven bytes
+abbrev pub heading_rows : List ℕ
+heading_rows =
     bytes
-    "STOP\t-\tSEND\t-\tNEG\t-\t NOT\t-\t JMP\tA\t BE\tA\t  BNE\tA\t BLT\tA\t BLE\tA\t BGT\tA\t BGE\tA\t STR\tD\t LOAD\tD\tADD\tD\t SUB\tD\t MLT\tD\t DIV\tD\t EXP\tD\t SHL\tD\t SHR\tD\t AND\tD\t OR\tD\t  XOR\tD\t CMP\tD\t LOAD\tK\tADD\tK\t SUB\tK\t MLT\tK\t DIV\tK\t EXP\tK\t SHL\tK\t SHR\tK\t AND\tK\t OR\tK\t  XOR\tK\t CMP\tK\t SKIP\tA\tCOND\tK\t77666566666676666666656676666666656677@@Q@@EP@GFR@@@@@SJ@@@@W@C@@@D@@dI@@@e@@@N@@@@@MUKL@@A@O@@HVB@@T@"
+    "STOP\t-\tSEND\t-\tNEG\t-\t NOT\t-\t JMP\tA\t BE\tA\t  BNE\tA\t BLT\tA\t BLE\tA\t BGT\tA\t BGE\tA\t STR\tD\t LOAD\tD\tADD\tD\t SUB\tD\t MLT\tD\t DIV\tD\t EXP\tD\t SHL\tD\t SHR\tD\t AND\tD\t OR\tD\t  XOR\tD\t CMP\tD\t LOAD\tK\tADD\tK\t SUB\tK\t MLT\tK\t DIV\tK\t EXP\tK\t SHL\tK\t SHR\tK\t AND\tK\t OR\tK\t  XOR\tK\t CMP\tK\t SKIP\tA\tCOND\tK\t"
+
+-- the lengths of the names and kinds
+abbrev pub heading_lengths : List ℕ
+heading_lengths = 7 ∷ 7 ∷ 6 ∷ 6 ∷ 6 ∷ 5 ∷ 6 ∷ 6 ∷ 6 ∷ 6 ∷ 6 ∷ 6 ∷ 7 ∷ 6 ∷ 6 ∷ 6 ∷ 6 ∷ 6 ∷ 6 ∷ 6 ∷ 6 ∷ 5 ∷ 6 ∷ 6 ∷ 7 ∷ 6 ∷ 6 ∷ 6 ∷ 6 ∷ 6 ∷ 6 ∷ 6 ∷ 6 ∷ 5 ∷ 6 ∷ 6 ∷ 7 ∷ 7 ∷ []
+
+-- the number of an order by a sum of its first three letters
+abbrev pub numbers_by_letters : List ℕ
+numbers_by_letters = 0 ∷ 0 ∷ 17 ∷ 0 ∷ 0 ∷ 5 ∷ 16 ∷ 0 ∷ 7 ∷ 6 ∷ 18 ∷ 0 ∷ 0 ∷ 0 ∷ 0 ∷ 0 ∷ 19 ∷ 10 ∷ 0 ∷ 0 ∷ 0 ∷ 0 ∷ 23 ∷ 0 ∷ 3 ∷ 0 ∷ 0 ∷ 0 ∷ 4 ∷ 0 ∷ 0 ∷ 36 ∷ 9 ∷ 0 ∷ 0 ∷ 0 ∷ 37 ∷ 0 ∷ 0 ∷ 0 ∷ 14 ∷ 0 ∷ 0 ∷ 0 ∷ 0 ∷ 0 ∷ 13 ∷ 21 ∷ 11 ∷ 12 ∷ 0 ∷ 0 ∷ 1 ∷ 0 ∷ 15 ∷ 0 ∷ 0 ∷ 8 ∷ 22 ∷ 2 ∷ 0 ∷ 0 ∷ 20 ∷ 0 ∷ []
 
 abbrev pub order_found : List ℕ → Option (Order × ℕ) → Front Order
 order_found s (Some (o, i)) = found o (drop i s)

@@ -5,7 +5,7 @@ ghost use Rattle.std.specs.Prelude.{◌≡◌, ◌≤◌, length, drop};
 ghost use Rattle.text.specs.Internal.{behind, placed, put_all};
 ghost use Rattle.order.specs.Memory.{order_of};
 ghost use Rattle.order.specs.Object.{heading, record_text, record_at};
-ghost use Rattle.order_record.specs.Internal.{record_table, order_found, heading_at, number_after, Likely};
+ghost use Rattle.order_record.specs.Internal.{order_found, heading_at, number_after, Likely};
 
 use base::part;
 use order::Order;
@@ -13,29 +13,27 @@ use order_number::{number_of, operand_of, order_of};
 use text::read::{fixed_at, numeral_at};
 use text::write::{decimal_length, put_byte, put_decimal, put_fixed};
 
-// What is known of the orders, by their numbers. First the names and kinds, each with the tab behind it: seven bytes each, a shorter
-// one with spaces behind it. Then their lengths, as digits. Then the number of an order by a sum of its first three letters, as the
-// character whose code is 64 more; orders with a word stand for those with a number too.
-static RECORDS: [u8; 368] = *b"STOP\t-\tSEND\t-\tNEG\t-\t NOT\t-\t JMP\tA\t BE\tA\t  \
+// The names and kinds of the orders, by their numbers, each with the tab behind it: seven bytes each, a shorter one with spaces
+// behind it. These tables are statics, since a constant is stored anew at each call of a function that names it.
+static HEADINGS: [u8; 266] = *b"STOP\t-\tSEND\t-\tNEG\t-\t NOT\t-\t JMP\tA\t BE\tA\t  \
     BNE\tA\t BLT\tA\t BLE\tA\t BGT\tA\t BGE\tA\t STR\tD\t \
     LOAD\tD\tADD\tD\t SUB\tD\t MLT\tD\t DIV\tD\t EXP\tD\t \
     SHL\tD\t SHR\tD\t AND\tD\t OR\tD\t  XOR\tD\t CMP\tD\t \
     LOAD\tK\tADD\tK\t SUB\tK\t MLT\tK\t DIV\tK\t EXP\tK\t \
-    SHL\tK\t SHR\tK\t AND\tK\t OR\tK\t  XOR\tK\t CMP\tK\t SKIP\tA\tCOND\tK\t\
-    77666566666676666666656676666666656677\
-    @@Q@@EP@GFR@@@@@SJ@@@@W@C@@@D@@dI@@@e@@@N@@@@@MUKL@@A@O@@HVB@@T@";
+    SHL\tK\t SHR\tK\t AND\tK\t OR\tK\t  XOR\tK\t CMP\tK\t SKIP\tA\tCOND\tK\t";
 
-// Where the lengths begin, and the numbers by letters.
-const LENGTHS: usize = 266;
+// The lengths of these, without the spaces.
+static LENGTHS: [u8; 38] = [
+    7, 7, 6, 6, 6, 5, 6, 6, 6, 6, 6, 6, 7, 6, 6, 6, 6, 6, 6, 6, 6, 5, 6, 6, 7, 6, 6, 6, 6, 6, 6, 6,
+    6, 5, 6, 6, 7, 7,
+];
 
-const LETTERS: usize = 304;
-
-// The table. Only this function names it, so no proof of another has all of its bytes before it.
-fn records() -> &'static [u8]
-    ensures { result.now ≡ record_table }
-{
-    &RECORDS
-}
+// The number of an order by a sum of its first three letters. Orders with a word stand for those with a number too.
+static BY_LETTERS: [u8; 64] = [
+    0, 0, 17, 0, 0, 5, 16, 0, 7, 6, 18, 0, 0, 0, 0, 0, 19, 10, 0, 0, 0, 0, 23, 0, 3, 0, 0, 0, 4, 0,
+    0, 36, 9, 0, 0, 0, 37, 0, 0, 0, 14, 0, 0, 0, 0, 0, 13, 21, 11, 12, 0, 0, 1, 0, 15, 0, 0, 8, 22,
+    2, 0, 0, 20, 0,
+];
 
 // The name and kind of the order with the number k, those of STOP where there is none.
 fn heading(k: u8) -> &'static [u8]
@@ -43,12 +41,10 @@ fn heading(k: u8) -> &'static [u8]
     ensures some { 2 ≤ length result.now }
     ensures few { length result.now ≤ 7 }
 {
-    let table = records();
     if k < 38 {
-        let count = base::at(table, LENGTHS + k as usize, 0) % 16;
-        return part(table, 7 * k as usize, count as usize);
+        return part(&HEADINGS, 7 * k as usize, LENGTHS[k as usize] as usize);
     }
-    part(table, 0, 7)
+    part(&HEADINGS, 0, 7)
 }
 
 // The place behind the name and kind of the order with the number k, if there is one and they stand there.
@@ -82,7 +78,7 @@ fn likely(s: &[u8]) -> u8
     let a = base::at(s, 0, 0) as usize;
     let b = base::at(s, 1, 0) as usize;
     let c = base::at(s, 2, 0) as usize;
-    let k = base::at(records(), LETTERS + (10 * a + 8 * b + c) % 64, 0) % 64;
+    let k = BY_LETTERS[(10 * a + 8 * b + c) % 64];
     // only an order with a word stands for one with a number too; SKIP and COND, from 24 on, do not, and COND has kind K
     if k < 24 && base::at(s, heading(k).len() - 2, 0) == b'K' {
         k + 12
