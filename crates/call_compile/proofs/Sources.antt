@@ -14,8 +14,12 @@ use Rattle.sheet_field.specs.Memory.{fields_from, most_fields}
 use Rattle.sheet_field.proofs.Stored.{fields_length, fields_front}
 use Rattle.source.specs.Source.{Answer, accepted, refusal, answer}
 use Rattle.source.proofs.WithinLimits.{given_within}
-use Rattle.front_end.specs.declared.Answer.{Answer as Reply}
-use Rattle.front_end.specs.declared.Answer.TheVariants.{Sheet as SheetIs, Refused, Unfit}
+use Rattle.std.proofs.Common.{Result, Ok, Err}
+use Rattle.source.specs.declared.Refusal.{Refusal}
+use Rattle.source.specs.Refusals.{refusal_number}
+use Rattle.front_end_forms.specs.declared.Failure.{Failure}
+use Rattle.front_end_forms.specs.declared.Failure.TheVariants.{Refused, Unfit}
+use Rattle.front_end.specs.declared.Sheet.{Sheet as SheetIs}
 use Rattle.front_end.specs.Answers.{Told, fields_of_sheet, refused_at, unfit, told, answered}
 use Rattle.call.specs.Reply.{reply, wrote}
 use Rattle.call.specs.Compile.{answer_call, compile_call}
@@ -70,20 +74,20 @@ never_by : {A : Type 0} (a : Answer) → unfit ≡ answered a → A
 never_by (accepted s) e = let z : ◌≡◌ {A = ℕ} 2 0 = ap number e in absurd (omega (arith, z))
 never_by (refusal n k) e = let z : ◌≡◌ {A = ℕ} 2 1 = ap number e in absurd (omega (arith, z))
 
-module _ (source : List ℕ) (a : Reply) (fs : List ℕ) (e : told a fs ≡ answered (answer source)) where
-  pub refused_call_law : (n k : ℕ) (buffer : List ℕ) → a ≡ Refused n k → wrote (reply n k) buffer ≡ compile_call source buffer
+module _ (source : List ℕ) (a : Result SheetIs Failure) (fs : List ℕ) (e : told a fs ≡ answered (answer source)) where
+  pub refused_call_law : (n : Refusal) (k : ℕ) (buffer : List ℕ) → a ≡ Err (Refused n k) → wrote (reply (refusal_number n) k) buffer ≡ compile_call source buffer
   unfolding compile_call
-  refused_call_law n k buffer z = refused_by (answer source) n k buffer (rw z at e)
+  refused_call_law n k buffer z = refused_by (answer source) (refusal_number n) k buffer (rw z at e)
 
   pub sheet_call_law :
-      (v count n : ℕ) (before : List ℕ) (r : ℕ) (after : List ℕ)
-      → a ≡ SheetIs v count n
+      (s : SheetIs) (before : List ℕ) (r : ℕ) (after : List ℕ)
+      → a ≡ Ok s
       → length fs ≡ most_fields
-      → ObjectWritten (take n fs) v before r after
+      → ObjectWritten (take s.fields fs) s.variables before r after
       → wrote r after ≡ compile_call source before
   unfolding compile_call
-  sheet_call_law v count n before r after z long written =
-      sheet_by (answer source) v count n fs before r after (λ s. given_within source s) long (rw z at e) written
+  sheet_call_law s before r after z long written =
+      sheet_by (answer source) s.variables s.instructions s.fields fs before r after (λ t. given_within source t) long (rw z at e) written
 
-  pub never_unfit : {A : Type 0} → a ≡ Unfit → A
+  pub never_unfit : {A : Type 0} → a ≡ Err Unfit → A
   never_unfit z = never_by (answer source) (rw z at e)

@@ -7,19 +7,18 @@ ghost use Rattle.call.specs.Compile.{compile_call};
 ghost use Rattle.call_compile.specs.Internal.{OrdersWritten, ObjectWritten};
 
 use call::{front, reply};
-use front_end::Answer;
-use object_writer::Written;
+use front_end_forms::Failure;
 use order::MOST_ORDERS;
 use sheet_field::MOST_FIELDS;
-use translate::Translated;
+use source::Refusal;
 
 // The text of the object with V, T and the orders that are lent, or 12.
 fn write_orders(orders: &[u64], v: u32, t: u32, object: &mut [u8]) -> u64
     ensures { OrdersWritten orders.now v t object.old result object.new }
 {
     match object_writer::write(orders, v, t, object) {
-        Written::Whole(length) => length as u64,
-        Written::Short => reply(12, 0),
+        Some(length) => length as u64,
+        None => reply(12, 0),
     }
 }
 
@@ -29,8 +28,13 @@ fn write_object(fields: &[u64], v: u32, object: &mut [u8]) -> u64
 {
     let mut orders = [0u64; MOST_ORDERS as usize];
     match translate::translate(fields, v, &mut orders) {
-        Translated::Whole(t, n) => write_orders(front(&orders, n as usize), v, t, object),
-        Translated::Over => reply(11, 0),
+        Some(whole) => write_orders(
+            front(&orders, whole.orders as usize),
+            v,
+            whole.temporaries,
+            object,
+        ),
+        None => reply(Refusal::Limit.number(), 0),
     }
 }
 
@@ -41,8 +45,12 @@ pub fn compile(source: &[u8], object: &mut [u8]) -> u64
 {
     let mut fields = [0u64; MOST_FIELDS];
     match front_end::read(source, &mut fields) {
-        Answer::Sheet(v, _, n) => write_object(front(&fields, n as usize), v, object),
-        Answer::Refused(n, place) => reply(n, place),
-        Answer::Unfit => reply(0, 0),
+        Ok(sheet) => write_object(
+            front(&fields, sheet.fields as usize),
+            sheet.variables,
+            object,
+        ),
+        Err(Failure::Refused(refusal, place)) => reply(refusal.number(), place),
+        Err(Failure::Unfit) => reply(0, 0),
     }
 }

@@ -21,20 +21,22 @@ use Rattle.source.specs.Limits.{most_bytes}
 use Rattle.source.specs.declared.Statement.{Statement}
 use Rattle.source.proofs.Letters.{statement_letters}
 use Rattle.name_index.proofs.Addition.{none_held}
-use Rattle.cells.specs.declared.Found.{Found}
-use Rattle.cells.specs.declared.Found.TheVariants.{At, Missing}
+use Rattle.std.proofs.Common.{Option, Some, None, Result, Ok, Err}
+use Rattle.source.specs.declared.Refusal.{Refusal}
+use Rattle.source.specs.Refusals.{refusal_number}
 use Rattle.cells.specs.declared.Next.{Next}
-use Rattle.cells.specs.declared.Reading.TheVariants.{Statement as ReadTo, Ended, Cut}
-use Rattle.cells.specs.Answers.{Bytes, refused as not_bytes, allowed as all_bytes_law, found, found_of, unrolled, Moved, Within}
+use Rattle.cells.specs.Answers.{offset_of, unrolled, Moved, Within}
 use Rattle.fields.specs.Memory.{field_jumps, statement_numbers}
 use Rattle.groups.specs.Memory.{GroupsHeld}
 use Rattle.front_end_forms.specs.declared.Progress.{Progress}
 use Rattle.front_end_forms.specs.declared.Step.{Step}
-use Rattle.front_end_forms.specs.declared.Step.TheVariants.{Further, Refused, Given, Unfit}
+use Rattle.front_end_forms.specs.declared.Step.TheVariants.{Further, Given}
+use Rattle.front_end_forms.specs.declared.Failure.{Failure}
+use Rattle.front_end_forms.specs.declared.Failure.TheVariants.{Refused, Unfit}
 use Rattle.front_end_forms.specs.Memory.{NameTable, Holds, Held, no_progress, outside_fields}
-use Rattle.front_end_forms.specs.Answers.{Comes}
+use Rattle.front_end_forms.specs.Answers.{Comes, Steps}
 use Rattle.front_end_forms.proofs.Stages.{says}
-use Rattle.front_end.specs.declared.Answer.TheVariants.{Sheet as SheetIs}
+use Rattle.front_end.specs.declared.Sheet.{Sheet as SheetIs}
 use Rattle.front_end.specs.Answers.{Told, told, answered, fields_of_sheet, refused_at, unfit}
 use Rattle.front_end.specs.Internal.{Rooms, Going}
 use borrow.Author.Tests.{lt-ltb, le-ltb}
@@ -73,7 +75,10 @@ starting room =
     }
 
 -- the sheet that is held
-held_told : {p : Progress} {fs : List ℕ} {s : Sheet} → Held p fs s → told (SheetIs p.names p.instructions p.fields) fs ≡ answered (accepted s)
+abbrev sheet_in : Progress → SheetIs
+sheet_in p = record { variables = p.names.count; instructions = p.instructions; fields = p.fields }
+
+held_told : {p : Progress} {fs : List ℕ} {s : Sheet} → Held p fs s → told (Ok (sheet_in p)) fs ≡ answered (accepted s)
 held_told {p} {fs} {s} h =
     ap (λ v. fields_of_sheet v p.instructions (fields_from 0 p.fields fs)) h.variables_too
     ∙ ap (λ n. fields_of_sheet (variables s) n (fields_from 0 p.fields fs)) h.instructions_too
@@ -88,45 +93,43 @@ module _ {source : List ℕ} {ns : NameTable} {ls gs fs : List ℕ} {at k : ℕ}
   whole : {r : Answer} → program g.so_far k (statements_from Plain [] (drop at source)) ≡ r → answered r ≡ answered (program nothing_read 0 (statements source))
   whole e = ap answered (sym e ∙ g.same)
 
-  module _ (n : Next) (e : unrolled source n ≡ statements_from Plain [] (drop at source)) where
-    pub none_left : n.reading ≡ Ended → refused_at 10 k ≡ answered (program nothing_read 0 (statements source))
+  module _ (r : Result (Option Next) Refusal) (e : unrolled source r ≡ statements_from Plain [] (drop at source)) where
+    pub none_left : r ≡ Ok None → refused_at 10 k ≡ answered (program nothing_read 0 (statements source))
     unfolding program
     none_left z = let t : ended ≡ statements_from Plain [] (drop at source) = rw z at e in whole (ap (program g.so_far k) (sym t))
 
-    pub next_cut : (m : ℕ) → n.reading ≡ Cut m → refused_at m (k + 1) ≡ answered (program nothing_read 0 (statements source))
+    pub next_cut : (m : Refusal) → r ≡ Err m → refused_at (refusal_number m) (k + 1) ≡ answered (program nothing_read 0 (statements source))
     unfolding program
     next_cut m z =
-        let t : cut m ≡ statements_from Plain [] (drop at source) = rw z at e in
-        ap (refused_at m) (add-one k) ∙ whole (ap (program g.so_far k) (sym t))
+        let t : cut (refusal_number m) ≡ statements_from Plain [] (drop at source) = rw z at e in
+        ap (refused_at (refusal_number m)) (add-one k) ∙ whole (ap (program g.so_far k) (sym t))
 
-    module _ (after : ℕ) (z : n.reading ≡ ReadTo after) where
-      one_more_law : (held n.statement) then statements_from Plain [] (drop after source) ≡ statements_from Plain [] (drop at source)
+    module _ (n : Next) (z : r ≡ Ok (Some n)) where
+      one_more_law : (held n.statement) then statements_from Plain [] (drop n.behind source) ≡ statements_from Plain [] (drop at source)
       one_more_law = rw z at e
 
       goes_on_law : {o : Outcome} → statement g.so_far (k + 1) (held n.statement) ≡ o
-          → program g.so_far k (statements_from Plain [] (drop at source)) ≡ on_outcome o (λ q. program q (suc k) (statements_from Plain [] (drop after source)))
+          → program g.so_far k (statements_from Plain [] (drop at source)) ≡ on_outcome o (λ q. program q (suc k) (statements_from Plain [] (drop n.behind source)))
       unfolding program
       goes_on_law {o} s =
           ap (program g.so_far k) (sym one_more_law)
           ∙ ap
-          (λ r. on_outcome r (λ q. program q (suc k) (statements_from Plain [] (drop after source))))
+          (λ r. on_outcome r (λ q. program q (suc k) (statements_from Plain [] (drop n.behind source))))
           (ap (λ j. statement g.so_far j (held n.statement)) (sym (add-one k)) ∙ s)
 
-      module _ {ns' : NameTable} {ls' gs' fs' : List ℕ} {r : Step} (one : Comes (λ o m. Holds o m ns' ls' gs' fs') (Held p fs') r (statement g.so_far (k + 1) (held n.statement))) where
-        pub is_refused : (m j : ℕ) → r ≡ Refused m j → refused_at m j ≡ answered (program nothing_read 0 (statements source))
+      module _ {ns' : NameTable} {ls' gs' fs' : List ℕ} {step : Result Step Failure} (one : Comes (Steps (λ o m. Holds o m ns' ls' gs' fs') (Held p fs')) step (statement g.so_far (k + 1) (held n.statement))) where
+        pub not_read : (f : Failure) → step ≡ Err f → told (Err f) fs' ≡ answered (program nothing_read 0 (statements source))
         unfolding on_outcome
-        is_refused m j s = let t = says (rw s at one) in whole (goes_on_law t)
+        not_read (Refused m j) s = let t = says (rw s at one) in whole (goes_on_law t)
+        not_read Unfit s = absurd (says (rw s at one))
 
-        pub never_unfit : {A : Type 0} → r ≡ Unfit → A
-        never_unfit s = absurd (says (rw s at one))
-
-        pub is_given : r ≡ Given → told (SheetIs p.names p.instructions p.fields) fs' ≡ answered (program nothing_read 0 (statements source))
+        pub is_given : step ≡ Ok Given → told (Ok (sheet_in p)) fs' ≡ answered (program nothing_read 0 (statements source))
         unfolding on_outcome
         is_given s =
             let t = says (rw s at one) in
             held_told t.kept ∙ whole (goes_on_law t.same)
 
-        pub is_further : (m : Progress) → r ≡ Further m → Within source at after n.statement.length → Going source after (k + 1) m ns' ls' gs' fs'
+        pub is_further : (m : Progress) → step ≡ Ok (Further m) → Within source at n.behind n.statement.length → Going source n.behind (k + 1) m ns' ls' gs' fs'
         unfolding on_outcome
         is_further m s w =
             let t = says (rw s at one) in
@@ -138,7 +141,7 @@ module _ {source : List ℕ} {ns : NameTable} {ls gs fs : List ℕ} {at k : ℕ}
             record {
               so_far = t.program;
               holds = t.kept;
-              same = ap (λ j. program t.program j (statements_from Plain [] (drop after source))) (add-one k) ∙ sym (goes_on_law t.same) ∙ g.same;
+              same = ap (λ j. program t.program j (statements_from Plain [] (drop n.behind source))) (add-one k) ∙ sym (goes_on_law t.same) ∙ g.same;
               inside = w.inside;
               fewer = let f = g.fewer in omega (arith, f, forward);
               few_letters = omega (arith, letters_before, letters_then, few_cells, short);
@@ -146,8 +149,8 @@ module _ {source : List ℕ} {ns : NameTable} {ls gs fs : List ℕ} {at k : ℕ}
 
 -- ---- where the next statement lies
 
-pub moved_to : {s : List ℕ} {at : ℕ} (n : Next) (after : ℕ) → Moved s at n → n.reading ≡ ReadTo after → Within s at after n.statement.length
-moved_to n after h e = rw e at h
+pub moved_to : {s : List ℕ} {at : ℕ} (r : Result (Option Next) Refusal) (n : Next) → Moved s at r → r ≡ Ok (Some n) → Within s at n.behind n.statement.length
+moved_to r n h e = rw e at h
 
 -- fewer statements than bytes
 pub few_statements : {source : List ℕ} {ns : NameTable} {ls gs fs : List ℕ} {at k : ℕ} {p : Progress} → Going source at k p ns ls gs fs → length source ≤ most_bytes → k + 1 < statement_numbers
@@ -164,55 +167,39 @@ letters_fit g w h =
 
 -- ---- before any statement
 
-abbrev is_all : Bytes → ℕ
-is_all (not_bytes n i) = 0
-is_all all_bytes_law = 1
-
-abbrev offset_or : ℕ → Bytes → ℕ
-offset_or d (not_bytes n i) = i
-offset_or d all_bytes_law = d
-
 module _ (source : List ℕ) where
   pub too_long : most_bytes < length source → refused_at 1 0 ≡ answered (answer source)
   unfolding pick
   too_long h = rw (lt-ltb most_bytes (length source) h) refl
 
-  module _ (short : length source ≤ most_bytes) (r : Found) (e : found r ≡ found_of (not_allowed 0 source)) where
-    -- the number and place that the case has are those of the source's refusal
-    refused_byte : (n i : ℕ) → not_bytes n i ≡ found_of (not_allowed 0 source) → refused_at n i ≡ answered (answer source)
+  module _ (short : length source ≤ most_bytes) (r : Option ℕ) (e : r ≡ offset_of (not_allowed 0 source)) where
+    pub not_a_byte : (i : ℕ) → r ≡ Some i → refused_at 2 i ≡ answered (answer source)
     unfolding pick
-    refused_byte n i z = rw (le-ltb most_bytes (length source) short) (by_offset (not_allowed 0 source) z)
+    not_a_byte i z = rw (le-ltb most_bytes (length source) short) (by_offset (not_allowed 0 source) (sym z ∙ e))
       where
-        by_offset : (a : NotAllowed) → not_bytes n i ≡ found_of a → refused_at n i ≡ answered (on_allowed a source)
-        by_offset (offset j) z = ap replied z
-          where
-            replied : Bytes → Told
-            replied (not_bytes m k) = refused_at m k
-            replied all_bytes_law = unfit
-        by_offset all_allowed z = let m : ◌≡◌ {A = ℕ} 0 1 = ap is_all z in absurd (omega arith)
+        by_offset : (a : NotAllowed) → Some i ≡ offset_of a → refused_at 2 i ≡ answered (on_allowed a source)
+        by_offset (offset j) z = ap (refused_at 2) (let same : i ≡ j = cc in same)
+        by_offset all_allowed z = absurd (cc)
 
-    pub not_a_byte : (i : ℕ) → r ≡ At i → refused_at 2 i ≡ answered (answer source)
-    not_a_byte i z = refused_byte 2 i (rw z at e)
-
-    pub all_bytes : r ≡ Missing → answered (program nothing_read 0 (statements source)) ≡ answered (answer source)
+    pub all_bytes : r ≡ None → answered (program nothing_read 0 (statements source)) ≡ answered (answer source)
     unfolding pick
-    all_bytes z = rw (le-ltb most_bytes (length source) short) (by_offset (not_allowed 0 source) (rw z at e))
+    all_bytes z = rw (le-ltb most_bytes (length source) short) (by_offset (not_allowed 0 source) (sym z ∙ e))
       where
-        by_offset : (a : NotAllowed) → all_bytes_law ≡ found_of a → answered (program nothing_read 0 (statements source)) ≡ answered (on_allowed a source)
-        by_offset (offset j) z = let m : ◌≡◌ {A = ℕ} 1 0 = ap is_all z in absurd (omega arith)
+        by_offset : (a : NotAllowed) → None ≡ offset_of a → answered (program nothing_read 0 (statements source)) ≡ answered (on_allowed a source)
+        by_offset (offset j) z = absurd (cc)
         by_offset all_allowed z = refl
 
 -- the offset of a byte lies in the source
-offset_inside : (bs : List ℕ) (j n i : ℕ) → not_bytes n i ≡ found_of (not_allowed j bs) → i < j + length bs
+offset_inside : (bs : List ℕ) (j i : ℕ) → Some i ≡ offset_of (not_allowed j bs) → i < j + length bs
 unfolding not_allowed pick
-offset_inside [] j n i e = let z : ◌≡◌ {A = ℕ} 0 1 = ap is_all e in absurd (omega arith)
-offset_inside (b ∷ bs) j n i e =
+offset_inside [] j i e = absurd (cc)
+offset_inside (b ∷ bs) j i e =
     by_test
     (is_allowed b)
-    (λ t. let h = offset_inside bs (suc j) n i (rw t at e) in omega (arith, h))
-    (λ t. let z : i ≡ j = ap (offset_or i) (rw t at e) in omega (arith, z))
+    (λ t. let h = offset_inside bs (suc j) i (rw t at e) in omega (arith, h))
+    (λ t. let z : i ≡ j = cc (rw t at e) in omega (arith, z))
 
-pub small_offset : (source : List ℕ) (r : Found) (i : ℕ) → found r ≡ found_of (not_allowed 0 source) → r ≡ At i → length source ≤ most_bytes → i < 4294967296
+pub small_offset : (source : List ℕ) (r : Option ℕ) (i : ℕ) → r ≡ offset_of (not_allowed 0 source) → r ≡ Some i → length source ≤ most_bytes → i < 4294967296
 small_offset source r i e z h =
-    let g = offset_inside source 0 2 i (rw z at e) in
+    let g = offset_inside source 0 i (sym z ∙ e) in
     omega (arith, g, h)

@@ -1,13 +1,15 @@
 -- What each case of the answer stands for.
-use Rattle.std.specs.Prelude.{ℕ, List, eqb, length}
+use Rattle.std.specs.Prelude.{ℕ, List, eqb, length, Result, Ok, Err}
 use Rattle.base.specs.Choice.{pick}
 use Rattle.sheet.specs.declared.Field.{Field}
 use Rattle.sheet.specs.Sheet.{count, variables, instructions}
 use Rattle.sheet.specs.Memory.{sheet_fields}
 use Rattle.sheet_field.specs.Memory.{fields_from, most_fields}
 use Rattle.source.specs.Source.{Answer, accepted, refusal, answer}
-use Rattle.front_end.specs.declared.Answer.{Answer as Reply}
-use Rattle.front_end.specs.declared.Answer.TheVariants.{Sheet, Refused, Unfit}
+use Rattle.source.specs.Refusals.{refusal_number}
+use Rattle.front_end_forms.specs.declared.Failure.{Failure}
+use Rattle.front_end_forms.specs.declared.Failure.TheVariants.{Refused, Unfit}
+use Rattle.front_end.specs.declared.Sheet.{Sheet}
 
 -- V, the number of instructions and the fields of a sheet; document 01's number and place of a refusal; or that the array has not
 -- the places that it should have
@@ -17,10 +19,10 @@ pub data Told : Type 0 where
   unfit : Told
 
 -- the fields stand at the front of the array
-abbrev pub told : Reply → List ℕ → Told
-told (Sheet v many n) fs = fields_of_sheet v many (fields_from 0 n fs)
-told (Refused n k) fs = refused_at n k
-told Unfit fs = unfit
+abbrev pub told : Result Sheet Failure → List ℕ → Told
+told (Ok s) fs = fields_of_sheet s.variables s.instructions (fields_from 0 s.fields fs)
+told (Err (Refused e k)) fs = refused_at (refusal_number e) k
+told (Err Unfit) fs = unfit
 
 abbrev pub answered : Answer → Told
 answered (accepted s) = fields_of_sheet (variables s) (count (instructions s)) (sheet_fields s)

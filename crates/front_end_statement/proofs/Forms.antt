@@ -27,20 +27,28 @@ use Rattle.source.specs.Memory.{tokens_from, lexeme_of, lexemes_from, held, lett
 use Rattle.source.specs.Program.{looked_up, names_in, Program, Stage, nothing, declarations, instructions, in_order, refused, statement, Outcome, on_lexed}
 use Rattle.source.proofs.Stored.{lexemes_each}
 use Rattle.source.proofs.Letters.{letters_few}
-use Rattle.tokens.specs.declared.Lexed.{Lexed as Lexing}
-use Rattle.tokens.specs.declared.Lexed.TheVariants.{Tokens, Refused as Wrong, Unfit as NotFit}
-use Rattle.tokens.specs.Answers.{Told as ToldTokens, told as told_tokens, unfit as unfit_tokens, lexed_in, lexed_of, Few as FewTokens}
+use Rattle.std.proofs.Common.{Result, Ok, Err}
+use Rattle.source.specs.declared.Refusal.{Refusal}
+use Rattle.source.specs.declared.Refusal.TheVariants.{Form as BadForm}
+use Rattle.source.specs.Refusals.{refusal_number}
+use Rattle.tokens.specs.declared.Failure.{Failure as NotLexed}
+use Rattle.tokens.specs.declared.Failure.TheVariants.{Refused as Wrong, Unfit as NotFit}
+use Rattle.tokens.specs.Answers.{Told as ToldTokens, told as told_tokens, unfit as unfit_tokens, lexed_in, lexed_of}
 use Rattle.tokens.proofs.Scanning.{lexed_fit, told_short}
 use Rattle.grammar.specs.declared.Form.{Form as Answer}
-use Rattle.grammar.specs.declared.Form.TheVariants.{Begin, Declaration, End, Labels, Instruction, Opening, Finish, FinishElse, Nothing, Unfit}
+use Rattle.grammar.specs.declared.Form.TheVariants.{Begin, Declaration, End, Labels, Instruction, Opening, Finish, FinishElse}
+use Rattle.grammar.specs.declared.Failure.{Failure as NotFormed}
+use Rattle.grammar.specs.declared.Failure.TheVariants.{NoForm, Unfit as NotGrammar}
 use Rattle.grammar.specs.Answers.{Few, told, Told, begins, declares, ends, labels as labelled, instruction as instructs, opening, finishes, goes_on as goes_further, refusal as no_told, unfit, fields_of}
 use Rattle.grammar.specs.Answers.{labels_in}
 use Rattle.labels.specs.Memory.{labels_at, label_here}
 use Rattle.front_end_forms.specs.declared.Progress.{Progress}
-use Rattle.front_end_forms.specs.declared.Step.{Step}
-use Rattle.front_end_forms.specs.declared.Step.TheVariants.{Refused}
-use Rattle.front_end_forms.specs.Answers.{Comes, refuses, goes, gives, NoSheet, goes_on, IsInstruction as Instructed}
+use Rattle.front_end_forms.specs.declared.Step.TheVariants.{Further, Given}
+use Rattle.front_end_forms.specs.declared.Failure.{Failure}
+use Rattle.front_end_forms.specs.declared.Failure.TheVariants.{Refused, Unfit}
+use Rattle.front_end_forms.specs.Answers.{Comes, refuses, comes, Goes, Gives, Steps, goes_on, IsInstruction as Instructed}
 use Rattle.front_end_forms.proofs.Stages.{comes_refused}
+use Rattle.front_end_statement.specs.Internal.{further_of, given_of, placed_of}
 
 -- ---- which form it is
 
@@ -218,17 +226,16 @@ few_declared ms xs h e =
     let g : length (map (looked_up ms) xs) ≡ length xs = length-map xs (looked_up ms) in
     omega (arith, a, b, c, f, g, h)
 
--- ---- a step with a wider statement
+-- ---- an answer of a form as that of the statement
 
-no_sheet_yet : {P : Program → Progress → Type 0} {G : Sheet → Type 0} {r : Step} {o : Outcome} → Comes P NoSheet r o → Comes P G r o
-no_sheet_yet (refuses n k) = refuses n k
-no_sheet_yet (goes q p h) = goes q p h
-no_sheet_yet (gives s g) = absurd g
+as_step : {P : Program → Progress → Type 0} {G : Sheet → Type 0} {r : Result Progress Failure} {o : Outcome} → Comes (Goes P) r o → Comes (Steps P G) (further_of r) o
+as_step (refuses e k) = refuses e k
+as_step (comes p o t) = comes (Further p) o t
 
-goes_nowhere : {P : Program → Progress → Type 0} {G : Sheet → Type 0} {r : Step} {o : Outcome} → Comes (λ q n. ⊥) G r o → Comes P G r o
-goes_nowhere (refuses n k) = refuses n k
-goes_nowhere (goes q p h) = absurd h
-goes_nowhere (gives s g) = gives s g
+as_given : {P : Program → Progress → Type 0} {G : Sheet → Type 0} {r : Result (Unit {0}) Failure} {o : Outcome}
+    → Comes (λ (v : Unit {0}) o. Gives G o) r o → Comes (Steps P G) (given_of r) o
+as_given (refuses e k) = refuses e k
+as_given (comes v o t) = comes Given o t
 
 -- ---- a statement by its form
 
@@ -237,28 +244,40 @@ no_form_law q k xs nothing = refl
 no_form_law q k xs declarations = refl
 no_form_law q k xs instructions = refl
 
-module _ (q : Program) (k : ℕ) (xs : List Lexeme) (g : Form) {P : Program → Progress → Type 0} {G : Sheet → Type 0} where
+module _ (q : Program) (k : ℕ) (xs : List Lexeme) (g : Form) where
   -- the number that the case has is that of the statement's refusal
-  pub on_nothing : (n : ℕ) → no_told n ≡ fields_of g → Comes P G (Refused n k) (in_order q q.stage k xs g)
-  on_nothing n e = let t = its_form (no_told n) g e in rw (t.0, t.1) (comes_refused 7 k (no_form_law q k xs q.stage))
+  pub on_nothing : {A : Type 0} {T : A → Outcome → Type 0} → no_told 7 ≡ fields_of g → Comes T (Err (Refused BadForm k)) (in_order q q.stage k xs g)
+  on_nothing e = let t = its_form (no_told 7) g e in rw t.0 (comes_refused BadForm k (no_form_law q k xs q.stage))
 
-  module _ {r : Step} where
-    pub on_form : {f : Form} → g ≡ f → Comes P NoSheet r (in_order q q.stage k xs f) → Comes P G r (in_order q q.stage k xs g)
-    on_form e one = rw e (no_sheet_yet one)
+  module _ {P : Program → Progress → Type 0} {G : Sheet → Type 0} where
+    pub on_end : {r : Result (Unit {0}) Failure} → g ≡ ending → Comes (λ (v : Unit {0}) o. Gives G o) r (in_order q q.stage k xs ending)
+        → Comes (Steps P G) (given_of r) (in_order q q.stage k xs g)
+    on_end e one = rw e (as_given one)
 
-    pub on_end : g ≡ ending → Comes (λ o n. ⊥) G r (in_order q q.stage k xs ending) → Comes P G r (in_order q q.stage k xs g)
-    on_end e one = rw e (goes_nowhere one)
+    module _ {r : Result Progress Failure} where
+      pub on_form : {f : Form} → g ≡ f → Comes (Goes P) r (in_order q q.stage k xs f) → Comes (Steps P G) (further_of r) (in_order q q.stage k xs g)
+      on_form e one = rw e (as_step one)
 
-    -- the fields of an instruction are the first m of an array
-    pub on_instruction : (new own : List ℕ) (m : ℕ) (opens : Bool) → m ≤ length own → IsInstruction g new (fields_from 0 m own) opens
-        → ((i : Instructing) → Instructed (take m own) opens i → Comes P NoSheet r (in_order q q.stage k xs (instruction new i)))
-        → Comes P G r (in_order q q.stage k xs g)
-    on_instruction new own m opens inside i one =
-        on_form i.same (one i.what (record { its_fields = sym (fields_front m own inside) ∙ i.fields_same; its_opening = i.opening_same }))
+      -- the fields of an instruction are the first m of an array
+      pub on_instruction : (new own : List ℕ) (m : ℕ) (opens : Bool) → m ≤ length own → IsInstruction g new (fields_from 0 m own) opens
+          → ((i : Instructing) → Instructed (take m own) opens i → Comes (Goes P) r (in_order q q.stage k xs (instruction new i)))
+          → Comes (Steps P G) (further_of r) (in_order q q.stage k xs g)
+      on_instruction new own m opens inside i one =
+          on_form i.same (one i.what (record { its_fields = sym (fields_front m own inside) ∙ i.fields_same; its_opening = i.opening_same }))
 
 -- ---- what the grammar told, by the case of its answer
 
-module _ (n : ℕ) (ks vs own : List ℕ) {f : Answer} (g : Form) (e : told (tokens_from 0 n ks vs) f own ≡ fields_of g) where
+module _ (ts : List Token) (own : List ℕ) {r : Result Answer NotFormed} (g : Form) (e : told ts r own ≡ fields_of g) where
+  pub told_as : (f : Answer) → r ≡ Ok f → told ts (Ok f) own ≡ fields_of g
+  told_as f z = rw z at e
+
+  pub told_none : r ≡ Err NoForm → no_told 7 ≡ fields_of g
+  told_none z = rw z at e
+
+  pub told_unfit : {A : Type 0} → r ≡ Err NotGrammar → A
+  told_unfit z = let t : unfit ≡ fields_of g = rw z at e in absurd (its_form unfit g t)
+
+module _ (n : ℕ) (ks vs own : List ℕ) {f : Answer} (g : Form) (e : told (tokens_from 0 n ks vs) (Ok f) own ≡ fields_of g) where
   pub told_begin : f ≡ Begin → g ≡ beginning
   told_begin z = its_form begins g (rw z at e)
 
@@ -273,12 +292,6 @@ module _ (n : ℕ) (ks vs own : List ℕ) {f : Answer} (g : Form) (e : told (tok
 
   pub told_finish_else : f ≡ FinishElse → g ≡ finish_else
   told_finish_else z = its_form goes_further g (rw z at e)
-
-  pub told_nothing : f ≡ Nothing → no_told 7 ≡ fields_of g
-  told_nothing z = rw z at e
-
-  pub never_unfit : {A : Type 0} → f ≡ Unfit → A
-  never_unfit z = absurd (its_form unfit g (rw z at e))
 
   module _ (few : Few n f) where
     pub told_labels : (c : ℕ) → f ≡ Labels c → g ≡ labels (labels_at c ks vs)
@@ -332,9 +345,9 @@ module _ (q : Program) (k n : ℕ) (cells ks vs ws : List ℕ) (short : n ≤ mo
       (rw (lexemes_count n cells ks vs) short)
       (ap form (sym same) ∙ e)
 
-  pub by_tokens : {P : Program → Progress → Type 0} {G : Sheet → Type 0} {r : Step}
-      → Comes P G r (in_order q q.stage k (lexemes_from 0 n cells ks vs) (form (tokens_from 0 n ks ws)))
-      → Comes P G r (on_lexed q k (lexed (lexemes_from 0 n cells ks vs)))
+  pub by_tokens : {A : Type 0} {T : A → Outcome → Type 0} {r : Result A Failure}
+      → Comes T r (in_order q q.stage k (lexemes_from 0 n cells ks vs) (form (tokens_from 0 n ks ws)))
+      → Comes T r (on_lexed q k (lexed (lexemes_from 0 n cells ks vs)))
   by_tokens one = rw (← same) one
 
 -- the words of all tokens, where there is a place for each
@@ -345,53 +358,51 @@ looked_up_law ms n room cells ks vs ws e h = let all : min n room ≡ n = omega 
 
 -- ---- a statement by its cells
 
-abbrev told_case : ToldTokens → ℕ
-told_case (told_tokens l) = 0
-told_case unfit_tokens = 1
-
 abbrev lexed_told : ToldTokens → Lexed
 lexed_told (told_tokens l) = l
 lexed_told unfit_tokens = wrong 0
 
 module _ (s : Statement) where
-  pub few_told : {r : Lexing} (n : ℕ) → FewTokens s r → r ≡ Tokens n → s.length < most_cells → n ≤ most_cells
-  few_told {r} n few e h =
-      let g : n ≤ length (held s) = rw e at few in
-      let l : length (held s) ≡ min s.length (length s.cells) = length-take s.length s.cells in
-      omega (arith, g, l, h)
-
-  module _ (r : Lexing) (before_ks before_vs ks vs : List ℕ) (e : lexed_in (held s) r ks vs ≡ lexed_of s before_ks before_vs) where
+  module _ (r : Result ℕ NotLexed) (before_ks before_vs ks vs : List ℕ) (e : lexed_in (held s) r ks vs ≡ lexed_of s before_ks before_vs) where
     -- what has tokens, or is refused, is short
-    pub short_tokens : (n : ℕ) → r ≡ Tokens n → s.length < most_cells
+    pub short_tokens : (n : ℕ) → r ≡ Ok n → s.length < most_cells
     short_tokens n z = told_short s before_ks before_vs _ (rw z at e)
 
-    pub short_refused : (n : ℕ) → r ≡ Wrong n → s.length < most_cells
-    short_refused n z = told_short s before_ks before_vs _ (rw z at e)
+    pub short_refused : (f : Refusal) → r ≡ Err (Wrong f) → s.length < most_cells
+    short_refused f z = told_short s before_ks before_vs _ (rw z at e)
 
     module _ (short : s.length < most_cells) (room : most_cells ≤ length before_ks) (other_room : most_cells ≤ length before_vs) where
       all_told : lexed_in (held s) r ks vs ≡ told_tokens (lexemes (held s))
       all_told = e ∙ lexed_fit s before_ks before_vs short room other_room
 
-      pub tokens_fit : {A : Type 0} → r ≡ NotFit → A
-      tokens_fit z = let n : ◌≡◌ {A = ℕ} 1 0 = ap told_case (rw z at all_told) in absurd (omega arith)
+      pub tokens_fit : {A : Type 0} → r ≡ Err NotFit → A
+      tokens_fit z = let n = rw z at all_told in absurd (cc)
 
       -- the names of a statement have no more letters than it has cells
-      pub few_letters : (n : ℕ) → r ≡ Tokens n → letters_in (names_in (lexemes_from 0 n (held s) ks vs)) ≤ s.length
+      pub few_letters : (n : ℕ) → r ≡ Ok n → letters_in (names_in (lexemes_from 0 n (held s) ks vs)) ≤ s.length
       few_letters n z =
           let t : lexed (lexemes_from 0 n (held s) ks vs) ≡ lexemes (held s) = ap lexed_told (rw z at all_told) in
           let few = letters_few (held s) (lexemes_from 0 n (held s) ks vs) (sym t) in
           let l : length (held s) ≡ min s.length (length s.cells) = length-take s.length s.cells in
           omega (arith, few, l)
 
-      module _ (q : Program) (k : ℕ) {P : Program → Progress → Type 0} {G : Sheet → Type 0} where
-        pub by_cells : (n : ℕ) {o : Step} → r ≡ Tokens n → Comes P G o (on_lexed q k (lexed (lexemes_from 0 n (held s) ks vs))) → Comes P G o (statement q k (held s))
+      module _ (q : Program) (k : ℕ) {A : Type 0} {T : A → Outcome → Type 0} where
+        pub by_cells : (n : ℕ) {o : Result A Failure} → r ≡ Ok n → Comes T o (on_lexed q k (lexed (lexemes_from 0 n (held s) ks vs))) → Comes T o (statement q k (held s))
         unfolding statement
         by_cells n z one =
             let t : lexed (lexemes_from 0 n (held s) ks vs) ≡ lexemes (held s) = ap lexed_told (rw z at all_told) in
             rw (← t) one
 
-        pub by_refusal : (n : ℕ) → r ≡ Wrong n → Comes P G (Refused n k) (statement q k (held s))
+        pub by_refusal : (f : Refusal) → r ≡ Err (Wrong f) → Comes T (Err (Refused f k)) (statement q k (held s))
         unfolding statement
-        by_refusal n z =
-            let t : wrong n ≡ lexemes (held s) = ap lexed_told (rw z at all_told) in
-            comes_refused n k (ap (on_lexed q k) (sym t))
+        by_refusal f z =
+            let t : wrong (refusal_number f) ≡ lexemes (held s) = ap lexed_told (rw z at all_told) in
+            comes_refused f k (ap (on_lexed q k) (sym t))
+
+        pub not_lexed : (f : NotLexed) → r ≡ Err f → Comes T (Err (placed_of k f)) (statement q k (held s))
+        not_lexed (Wrong f) z = by_refusal f z
+        not_lexed NotFit z = tokens_fit z
+
+    pub long_unfit : {A : Type 0} (k : ℕ) (f : NotLexed) → r ≡ Err f → most_cells ≤ s.length → ◌≡◌ {A = Result A Failure} (Err (placed_of k f)) (Err Unfit)
+    long_unfit k (Wrong f) z many = let few = short_refused f z in absurd (omega (arith, many, few))
+    long_unfit k NotFit z many = refl

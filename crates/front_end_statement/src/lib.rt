@@ -1,22 +1,47 @@
 // One statement of a program: its tokens, its names looked up, its form, and what that does.
 #![tactic(auto)]
 
-ghost use Rattle.std.specs.Prelude.{◌≤◌, length};
+ghost use Rattle.std.specs.Prelude.{◌≤◌, ◌≡◌, length};
 ghost use Rattle.source.specs.Limits.{most_cells};
 ghost use Rattle.source.specs.Memory.{held};
 ghost use Rattle.grammar.specs.Answers.{Few};
 ghost use Rattle.front_end_forms.specs.Memory.{table_of};
 ghost use Rattle.front_end_forms.specs.Answers.{FewCounts};
 ghost use Rattle.front_end_statement.specs.Answers.{OnStatement};
-ghost use Rattle.front_end_statement.specs.Internal.{Dispatches, OnTokens};
+ghost use Rattle.front_end_statement.specs.Internal.{further_of, given_of, placed_of, Dispatches, OnTokens};
 
 use base::part;
-use front_end_forms::{Progress, Step, begin, declaration, instruction, label};
+use front_end_forms::{Failure, Progress, Step, begin, declaration, instruction, label};
 use front_end_groups::{conclude, finish, finish_else};
 use grammar::{Form, form_of};
 use names::look_up;
-use source::{MOST_CELLS, Statement};
-use tokens::{Lexed, tokens};
+use source::{MOST_CELLS, Refusal, Statement};
+use tokens::tokens;
+
+// What a form that only goes on comes to.
+fn further(progress: Result<Progress, Failure>) -> Result<Step, Failure>
+    ensures { result ≡ further_of progress }
+{
+    Ok(Step::Further(progress?))
+}
+
+// What the end of a program comes to.
+fn given(sheet: Result<(), Failure>) -> Result<Step, Failure>
+    ensures { result ≡ given_of sheet }
+{
+    sheet?;
+    Ok(Step::Given)
+}
+
+// Why a statement has no tokens, with its number.
+fn placed(failure: tokens::Failure, k: u32) -> Failure
+    ensures { result ≡ placed_of k failure }
+{
+    match failure {
+        tokens::Failure::Refused(e) => Failure::Refused(e, k),
+        tokens::Failure::Unfit => Failure::Unfit,
+    }
+}
 
 // A statement by its form. `own` holds the fields of its instruction.
 fn dispatch(
@@ -34,27 +59,25 @@ fn dispatch(
     labels: &mut [u32],
     groups: &mut [u64],
     fields: &mut [u64],
-) -> Step
+) -> Result<Step, Failure>
     requires { FewCounts p × Few n form × (n ≤ most_cells) × (n ≤ length own.now) }
     ensures { Dispatches form p k n cells.now tokens.now spelled.now words.now own.now (table_of letters.old index.old) labels.old groups.old fields.old result (table_of letters.new index.new) labels.new groups.new fields.new }
 {
     match form {
-        Form::Begin => begin(p, k),
-        Form::Declaration => declaration(p, k, cells, tokens, spelled, n, letters, index),
-        Form::End => conclude(p, k, labels, groups, fields),
-        Form::Labels(c) => label(p, k, tokens, words, c, labels),
+        Form::Begin => further(begin(p, k)),
+        Form::Declaration => further(declaration(p, k, cells, tokens, spelled, n, letters, index)),
+        Form::End => given(conclude(p, k, labels, groups, fields)),
+        Form::Labels(c) => further(label(p, k, tokens, words, c, labels)),
         Form::Instruction(c, m) => {
             let u = &own[..m];
-            instruction(p, k, tokens, words, c, u, false, labels, groups, fields)
+            further(instruction(p, k, tokens, words, c, u, false, labels, groups, fields))
         }
         Form::Opening(c, m) => {
             let u = &own[..m];
-            instruction(p, k, tokens, words, c, u, true, labels, groups, fields)
+            further(instruction(p, k, tokens, words, c, u, true, labels, groups, fields))
         }
-        Form::Finish => finish(p, k, labels, groups, fields),
-        Form::FinishElse => finish_else(p, k, labels, groups, fields),
-        Form::Nothing => Step::Refused(7, k),
-        Form::Unfit => Step::Unfit,
+        Form::Finish => further(finish(p, k, labels, groups, fields)),
+        Form::FinishElse => further(finish_else(p, k, labels, groups, fields)),
     }
 }
 
@@ -71,19 +94,30 @@ fn on_tokens(
     labels: &mut [u32],
     groups: &mut [u64],
     fields: &mut [u64],
-) -> Step
+) -> Result<Step, Failure>
     requires { FewCounts p × (n ≤ most_cells) }
     ensures { OnTokens p k n cells.now tokens.now spelled.now (table_of letters.old index.old) labels.old groups.old fields.old result (table_of letters.new index.new) labels.new groups.new fields.new }
 {
     let mut words = [0u32; MOST_CELLS];
     look_up(
-        cells, tokens, spelled, n, letters, index, p.names, &mut words,
+        cells,
+        tokens,
+        spelled,
+        n,
+        letters,
+        index,
+        p.names.count,
+        &mut words,
     );
     let mut own = [0u64; MOST_CELLS];
-    let form = form_of(tokens, &words, n, &mut own);
-    dispatch(
-        form, p, k, cells, tokens, spelled, &words, n, &own, letters, index, labels, groups, fields,
-    )
+    match form_of(tokens, &words, n, &mut own) {
+        Ok(form) => dispatch(
+            form, p, k, cells, tokens, spelled, &words, n, &own, letters, index, labels, groups,
+            fields,
+        ),
+        Err(grammar::Failure::NoForm) => Err(Failure::Refused(Refusal::Form, k)),
+        Err(grammar::Failure::Unfit) => Err(Failure::Unfit),
+    }
 }
 
 // A statement, number k. One that no end mark fits behind is unfit.
@@ -96,7 +130,7 @@ pub fn statement(
     labels: &mut [u32],
     groups: &mut [u64],
     fields: &mut [u64],
-) -> Step
+) -> Result<Step, Failure>
     requires { FewCounts p }
     ensures { OnStatement p k s.length (held s) (table_of letters.old index.old) labels.old groups.old fields.old result (table_of letters.new index.new) labels.new groups.new fields.new }
 {
@@ -104,7 +138,7 @@ pub fn statement(
     let mut found = [0u8; MOST_CELLS];
     let mut spelled = [0u32; MOST_CELLS];
     match tokens(s, &mut found, &mut spelled) {
-        Lexed::Tokens(n) => on_tokens(
+        Ok(n) => on_tokens(
             p,
             k,
             part(&s.cells, 0, length),
@@ -117,7 +151,6 @@ pub fn statement(
             groups,
             fields,
         ),
-        Lexed::Refused(e) => Step::Refused(e, k),
-        Lexed::Unfit => Step::Unfit,
+        Err(failure) => Err(placed(failure, k)),
     }
 }

@@ -3,8 +3,8 @@ use native.Mathlib.Nat.{zero-add}
 use Rattle.call.proofs.Texts.{told_written}
 use Rattle.call_compile.proofs.write_orders.Goals as goal
 
-pub returns-in-Whole : goal.returns-in-Whole
-returns-in-Whole c = λ few. told_written 12 _ _ _ _ _ (sym (zero-add _)) (rw c.in-Whole.is at (c.write.ensures.replied few)) (c.write.ensures.filled few)
+pub returns-in-Some : goal.returns-in-Some
+returns-in-Some c = λ few. told_written 12 _ _ _ _ _ (sym (zero-add _)) (rw c.in-Some.is at (c.write.ensures.replied few)) (c.write.ensures.filled few)
 
-pub returns-in-Short : goal.returns-in-Short
-returns-in-Short c = λ few. told_written 12 _ _ _ _ _ c.reply.ensures (rw c.in-Short.is at (c.write.ensures.replied few)) (c.write.ensures.filled few)
+pub returns-in-None : goal.returns-in-None
+returns-in-None c = λ few. told_written 12 _ _ _ _ _ c.reply.ensures (rw c.in-None.is at (c.write.ensures.replied few)) (c.write.ensures.filled few)

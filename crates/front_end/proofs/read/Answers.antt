@@ -10,11 +10,11 @@ pub returns-then-source-gt-MOST_BYTES : goal.returns-then-source-gt-MOST_BYTES
 returns-then-source-gt-MOST_BYTES c = let a = c.args in record { told = too_long a.source.now c.if-source-gt-MOST_BYTES.true ∙ sym (is_fit a.source.now a.fields.now c.if-fields-ne-MOST_FIELDS.false); kept = refl }
 
 pub overflow_cast-result : goal.overflow_cast-result
-overflow_cast-result c = record { fits = small_offset c.args.source.now c.not_allowed.result _ c.not_allowed.ensures c.in-At.is c.if-source-gt-MOST_BYTES.false }
+overflow_cast-result c = record { fits = small_offset c.args.source.now c.not_allowed.result _ c.not_allowed.ensures c.in-Some.is c.if-source-gt-MOST_BYTES.false }
 
-pub returns-in-At : goal.returns-in-At
-returns-in-At c = let a = c.args in record {
-  told = not_a_byte a.source.now c.if-source-gt-MOST_BYTES.false c.not_allowed.result c.not_allowed.ensures _ c.in-At.is
+pub returns-in-Some : goal.returns-in-Some
+returns-in-Some c = let a = c.args in record {
+  told = not_a_byte a.source.now c.if-source-gt-MOST_BYTES.false c.not_allowed.result c.not_allowed.ensures _ c.in-Some.is
       ∙ sym (is_fit a.source.now a.fields.now c.if-fields-ne-MOST_FIELDS.false);
   kept = refl;
 }
