@@ -47,6 +47,6 @@ pub fn read_back(object: &[u8], sheet: &mut [u8]) -> u64
             frame.temporaries,
             sheet,
         ),
-        Err(reason) => refusal(reason),
+        Err(reason) => refusal(Err(reason)),
     }
 }
