@@ -37,7 +37,7 @@ use Rattle.front_end_forms.specs.Memory.{NameTable, Holds, Held, no_progress, ou
 use Rattle.front_end_forms.specs.Answers.{Comes, Steps}
 use Rattle.front_end_forms.proofs.Stages.{says}
 use Rattle.front_end.specs.declared.Sheet.{Sheet as SheetIs}
-use Rattle.front_end.specs.Answers.{Told, told, answered, fields_of_sheet, refused_at, unfit}
+use Rattle.front_end.specs.Answers.{told, answered, fields_of_sheet, refused_at}
 use Rattle.front_end.specs.Internal.{Rooms, Going}
 use borrow.Author.Tests.{lt-ltb, le-ltb}
 

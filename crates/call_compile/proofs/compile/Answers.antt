@@ -13,7 +13,7 @@ returns-in-Ok c =
 pub returns-in-Err-Refused : goal.returns-in-Err-Refused
 returns-in-Err-Refused c =
     let read = c.read in
-    rw (c.reply.ensures, c.number.ensures) (refused_call_law _ read.result _ (read.ensures.told ∙ is_fit _ _ refl) _ _ _ (c.in-Err-Refused.is ∙ ap Err c.in-Err-Refused.field-0-is))
+    rw (c.reply.ensures, c.number.ensures, c.in-Err-Refused.refusal-is, c.in-Err-Refused.place-is) (refused_call_law _ read.result _ (read.ensures.told ∙ is_fit _ _ refl) _ _ _ (c.in-Err-Refused.is ∙ ap Err c.in-Err-Refused.field-0-is))
 
 pub returns-in-Err-Unfit : goal.returns-in-Err-Unfit
 returns-in-Err-Unfit c =
