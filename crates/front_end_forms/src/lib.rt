@@ -13,6 +13,7 @@ ghost use Rattle.front_end_forms.specs.Internal.{too_deep, Opens, Places};
 
 use fields::{all_known, good_jumps};
 use fields_put::{Unfit, append};
+use grammar_look::Tokens;
 use groups::put_first;
 use labels::set_labels;
 use name_index::Names;
@@ -100,18 +101,16 @@ pub fn declaration(
     p: Progress,
     k: u32,
     cells: &[u8],
-    kinds: &[u8],
-    values: &[u32],
-    n: usize,
+    tokens: &Tokens<'_>,
     letters: &mut [u8],
     index: &mut [u32],
 ) -> Result<Progress, Failure>
-    ensures { Declares p k (lexemes_from 0 n cells.now kinds.now values.now) (table_of letters.old index.old) result (table_of letters.new index.new) }
+    ensures { Declares p k (lexemes_from 0 tokens.now.count cells.now tokens.now.kinds.now tokens.now.values.now) (table_of letters.old index.old) result (table_of letters.new index.new) }
 {
     if p.stage != Stage::Declarations {
         return Err(Failure::Refused(Refusal::Form, k));
     }
-    match declare(cells, kinds, values, n, letters, index, p.names) {
+    match declare(cells, tokens, letters, index, p.names) {
         Ok(names) => {
             if MOST_VARIABLES < names.count {
                 return Err(Failure::Refused(Refusal::Limit, k));
@@ -127,19 +126,18 @@ pub fn declaration(
 pub fn label(
     p: Progress,
     k: u32,
-    kinds: &[u8],
-    values: &[u32],
+    tokens: &Tokens<'_>,
     many: usize,
     labels: &mut [u32],
 ) -> Result<Progress, Failure>
     requires { FewCounts p }
     ensures kept { KeepsCounts p result }
-    ensures set { SetsLabels p k (labels_at many kinds.now values.now) labels.old result labels.new }
+    ensures set { SetsLabels p k (labels_at many tokens.now.kinds.now tokens.now.values.now) labels.old result labels.new }
 {
     if p.stage == Stage::Nothing {
         return Err(Failure::Refused(Refusal::Form, k));
     }
-    match set_labels(kinds, values, many, labels, p.labels, p.instructions + 1) {
+    match set_labels(tokens, many, labels, p.labels, p.instructions + 1) {
         Ok(set) => {
             if MOST_LABELS < set {
                 return Err(Failure::Refused(Refusal::Limit, k));
@@ -216,8 +214,7 @@ fn place(
 pub fn instruction(
     p: Progress,
     k: u32,
-    tokens: &[u8],
-    words: &[u32],
+    tokens: &Tokens<'_>,
     many: usize,
     own: &[u64],
     opens: bool,
@@ -226,7 +223,7 @@ pub fn instruction(
     fields: &mut [u64],
 ) -> Result<Progress, Failure>
     requires { FewCounts p }
-    ensures { Instructs p k (labels_at many tokens.now words.now) own.now opens labels.old groups.old fields.old result labels.new groups.new fields.new }
+    ensures { Instructs p k (labels_at many tokens.now.kinds.now tokens.now.values.now) own.now opens labels.old groups.old fields.old result labels.new groups.new fields.new }
 {
     if p.stage == Stage::Nothing {
         return Err(Failure::Refused(Refusal::Form, k));
@@ -237,6 +234,6 @@ pub fn instruction(
     if !good_jumps(own) {
         return Err(Failure::Refused(Refusal::Label, k));
     }
-    let labelled = label(p, k, tokens, words, many, labels)?;
+    let labelled = label(p, k, tokens, many, labels)?;
     place(labelled, k, own, opens, groups, fields)
 }

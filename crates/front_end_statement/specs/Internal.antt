@@ -1,6 +1,6 @@
 -- What the private functions do.
 use Rattle.std.specs.Prelude.{ℕ, ◌≤◌, ◌≡◌, List, length, Result, Ok, Err}
-use Rattle.source.specs.Tokens.{lexed}
+use Rattle.source.specs.Tokens.{Lexeme, lexed}
 use Rattle.source.specs.Grammar.{declaration, Form as StatementForm}
 use Rattle.source.specs.Memory.{most_listed, tokens_from, lexemes_from, letters_in}
 use Rattle.source.specs.Program.{names_in, in_order, on_lexed}
@@ -31,14 +31,14 @@ abbrev pub placed_of : ℕ → NotLexed → Failure
 placed_of k (Wrong e) = Refused e k
 placed_of k NotFit = Unfit
 
--- a statement of n tokens with the form f
-abbrev pub Dispatches : Form → Progress → ℕ → ℕ → List ℕ → List ℕ → List ℕ → List ℕ → List ℕ → NameTable → List ℕ → List ℕ → List ℕ → Result Step Failure → NameTable → List ℕ → List ℕ → List ℕ → Type 0
-Dispatches f p k n cells tokens spelled words own before_ns before_ls before_gs before_fs r ns ls gs fs =
+-- a statement of n tokens with the form f, which are xs as they were spelled
+abbrev pub Dispatches : Form → Progress → ℕ → ℕ → List ℕ → List ℕ → List Lexeme → List ℕ → NameTable → List ℕ → List ℕ → List ℕ → Result Step Failure → NameTable → List ℕ → List ℕ → List ℕ → Type 0
+Dispatches f p k n tokens words xs own before_ns before_ls before_gs before_fs r ns ls gs fs =
     (g : StatementForm)
     → told (tokens_from 0 n tokens words) (Ok f) own ≡ fields_of g
-    → (g ≡ declaration → length (names_in (lexemes_from 0 n cells tokens spelled)) ≤ most_listed)
-    → Follows p k (letters_in (names_in (lexemes_from 0 n cells tokens spelled))) before_ns before_ls before_gs before_fs r ns ls gs fs
-    (λ q. in_order q q.stage k (lexemes_from 0 n cells tokens spelled) g)
+    → (g ≡ declaration → length (names_in xs) ≤ most_listed)
+    → Follows p k (letters_in (names_in xs)) before_ns before_ls before_gs before_fs r ns ls gs fs
+    (λ q. in_order q q.stage k xs g)
 
 abbrev pub OnTokens : Progress → ℕ → ℕ → List ℕ → List ℕ → List ℕ → NameTable → List ℕ → List ℕ → List ℕ → Result Step Failure → NameTable → List ℕ → List ℕ → List ℕ → Type 0
 OnTokens p k n cells tokens spelled before_ns before_ls before_gs before_fs r ns ls gs fs =

@@ -3,7 +3,7 @@
 
 ghost use Rattle.std.specs.Prelude.{◌≤◌, ◌≡◌, length};
 ghost use Rattle.source.specs.Limits.{most_cells};
-ghost use Rattle.source.specs.Memory.{held};
+ghost use Rattle.source.specs.Memory.{held, lexemes_from};
 ghost use Rattle.grammar.specs.Answers.{Few};
 ghost use Rattle.front_end_forms.specs.Memory.{table_of};
 ghost use Rattle.front_end_forms.specs.Answers.{FewCounts};
@@ -14,6 +14,7 @@ use base::part;
 use front_end_forms::{Failure, Progress, Step, begin, declaration, instruction, label};
 use front_end_groups::{conclude, finish, finish_else};
 use grammar::{Form, form_of};
+use grammar_look::Tokens;
 use names::look_up;
 use source::{MOST_CELLS, Refusal, Statement};
 use tokens::tokens;
@@ -43,16 +44,15 @@ fn placed(failure: tokens::Failure, k: u32) -> Failure
     }
 }
 
-// A statement by its form. `own` holds the fields of its instruction.
+// A statement by its form. `spelled` are its tokens before their names are looked up, and `own` holds the fields of its
+// instruction.
 fn dispatch(
     form: Form,
     p: Progress,
     k: u32,
     cells: &[u8],
-    tokens: &[u8],
-    spelled: &[u32],
-    words: &[u32],
-    n: usize,
+    spelled: &Tokens<'_>,
+    tokens: &Tokens<'_>,
     own: &[u64],
     letters: &mut [u8],
     index: &mut [u32],
@@ -60,21 +60,21 @@ fn dispatch(
     groups: &mut [u64],
     fields: &mut [u64],
 ) -> Result<Step, Failure>
-    requires { FewCounts p × Few n form × (n ≤ most_cells) × (n ≤ length own.now) }
-    ensures { Dispatches form p k n cells.now tokens.now spelled.now words.now own.now (table_of letters.old index.old) labels.old groups.old fields.old result (table_of letters.new index.new) labels.new groups.new fields.new }
+    requires { FewCounts p × Few tokens.now.count form × (tokens.now.count ≤ most_cells) × (tokens.now.count ≤ length own.now) }
+    ensures { Dispatches form p k tokens.now.count tokens.now.kinds.now tokens.now.values.now (lexemes_from 0 spelled.now.count cells.now spelled.now.kinds.now spelled.now.values.now) own.now (table_of letters.old index.old) labels.old groups.old fields.old result (table_of letters.new index.new) labels.new groups.new fields.new }
 {
     match form {
         Form::Begin => further(begin(p, k)),
-        Form::Declaration => further(declaration(p, k, cells, tokens, spelled, n, letters, index)),
+        Form::Declaration => further(declaration(p, k, cells, spelled, letters, index)),
         Form::End => given(conclude(p, k, labels, groups, fields)),
-        Form::Labels(c) => further(label(p, k, tokens, words, c, labels)),
+        Form::Labels(c) => further(label(p, k, tokens, c, labels)),
         Form::Instruction(c, m) => {
             let u = &own[..m];
-            further(instruction(p, k, tokens, words, c, u, false, labels, groups, fields))
+            further(instruction(p, k, tokens, c, u, false, labels, groups, fields))
         }
         Form::Opening(c, m) => {
             let u = &own[..m];
-            further(instruction(p, k, tokens, words, c, u, true, labels, groups, fields))
+            further(instruction(p, k, tokens, c, u, true, labels, groups, fields))
         }
         Form::Finish => further(finish(p, k, labels, groups, fields)),
         Form::FinishElse => further(finish_else(p, k, labels, groups, fields)),
@@ -86,34 +86,26 @@ fn on_tokens(
     p: Progress,
     k: u32,
     cells: &[u8],
-    tokens: &[u8],
-    spelled: &[u32],
-    n: usize,
+    spelled: &Tokens<'_>,
     letters: &mut [u8],
     index: &mut [u32],
     labels: &mut [u32],
     groups: &mut [u64],
     fields: &mut [u64],
 ) -> Result<Step, Failure>
-    requires { FewCounts p × (n ≤ most_cells) }
-    ensures { OnTokens p k n cells.now tokens.now spelled.now (table_of letters.old index.old) labels.old groups.old fields.old result (table_of letters.new index.new) labels.new groups.new fields.new }
+    requires { FewCounts p × (spelled.now.count ≤ most_cells) }
+    ensures { OnTokens p k spelled.now.count cells.now spelled.now.kinds.now spelled.now.values.now (table_of letters.old index.old) labels.old groups.old fields.old result (table_of letters.new index.new) labels.new groups.new fields.new }
 {
     let mut words = [0u32; MOST_CELLS];
-    look_up(
-        cells,
-        tokens,
-        spelled,
-        n,
-        letters,
-        index,
-        p.names.count,
-        &mut words,
-    );
+    look_up(cells, spelled, letters, index, p.names.count, &mut words);
+    let tokens = Tokens {
+        values: &words,
+        ..*spelled
+    };
     let mut own = [0u64; MOST_CELLS];
-    match form_of(tokens, &words, n, &mut own) {
+    match form_of(&tokens, &mut own) {
         Ok(form) => dispatch(
-            form, p, k, cells, tokens, spelled, &words, n, &own, letters, index, labels, groups,
-            fields,
+            form, p, k, cells, spelled, &tokens, &own, letters, index, labels, groups, fields,
         ),
         Err(grammar::Failure::NoForm) => Err(Failure::Refused(Refusal::Form, k)),
         Err(grammar::Failure::Unfit) => Err(Failure::Unfit),
@@ -135,22 +127,20 @@ pub fn statement(
     ensures { OnStatement p k s.length (held s) (table_of letters.old index.old) labels.old groups.old fields.old result (table_of letters.new index.new) labels.new groups.new fields.new }
 {
     let length = s.length;
-    let mut found = [0u8; MOST_CELLS];
-    let mut spelled = [0u32; MOST_CELLS];
-    match tokens(s, &mut found, &mut spelled) {
-        Ok(n) => on_tokens(
-            p,
-            k,
-            part(&s.cells, 0, length),
-            &found,
-            &spelled,
-            n,
-            letters,
-            index,
-            labels,
-            groups,
-            fields,
-        ),
+    let mut kinds = [0u8; MOST_CELLS];
+    let mut values = [0u32; MOST_CELLS];
+    match tokens(s, &mut kinds, &mut values) {
+        Ok(count) => {
+            let spelled = Tokens {
+                kinds: &kinds,
+                values: &values,
+                count,
+            };
+            let cells = part(&s.cells, 0, length);
+            on_tokens(
+                p, k, cells, &spelled, letters, index, labels, groups, fields,
+            )
+        }
         Err(failure) => Err(placed(failure, k)),
     }
 }

@@ -144,22 +144,17 @@ fn fit_form(tokens: &Tokens<'_>, fields: &mut [u64]) -> Result<Form, Failure>
     labelled(tokens, fields)
 }
 
-// The form of the statement whose tokens are the first n of two arrays, for any number of tokens and any array. A statement has no
-// more tokens than the cells that it can hold, and no more fields than tokens. Free is what the array holds behind the fields of an
-// instruction, and all that it holds where there is none.
-pub fn form_of(kinds: &[u8], values: &[u32], n: usize, fields: &mut [u64]) -> Result<Form, Failure>
-    ensures read { told (tokens_from 0 n kinds.now values.now) result fields.new
-        ≡ told_of n fields.old (tokens_from 0 n kinds.now values.now) }
-    ensures few { IfOk result (Few n) }
+// The form of the statement that has these tokens, for any number of tokens and any array. A statement has no more tokens than the
+// cells that it can hold, and no more fields than tokens. Free is what the array holds behind the fields of an instruction, and all
+// that it holds where there is none.
+pub fn form_of(tokens: &Tokens<'_>, fields: &mut [u64]) -> Result<Form, Failure>
+    ensures read { told (tokens_from 0 tokens.now.count tokens.now.kinds.now tokens.now.values.now) result fields.new
+        ≡ told_of tokens.now.count fields.old (tokens_from 0 tokens.now.count tokens.now.kinds.now tokens.now.values.now) }
+    ensures few { IfOk result (Few tokens.now.count) }
     ensures kept { length fields.new ≡ length fields.old }
 {
-    if is_fit(n, fields.len()) {
-        let tokens = Tokens {
-            kinds,
-            values,
-            count: n,
-        };
-        return fit_form(&tokens, fields);
+    if is_fit(tokens.count, fields.len()) {
+        return fit_form(tokens, fields);
     }
     Err(Failure::Unfit)
 }

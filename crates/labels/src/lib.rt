@@ -10,6 +10,7 @@ ghost use Rattle.labels.specs.Answers.{found_of, fit, SetsLabels, PutsOff, Takes
 ghost use Rattle.labels.specs.Internal.{SetsOne, SetsAll, moved_entry, Moves};
 
 use base::{at, put};
+use grammar_look::Tokens;
 use source::{GREATEST_LABEL, LABEL_ROWS};
 use token_number::{token_at, value_of};
 
@@ -67,18 +68,17 @@ fn set_label(labels: &mut [u32], count: u32, next: u32, l: u32) -> Result<u32, F
 
 // Sets a statement's labels, which every second of its tokens carries, where there is room for them.
 fn set_all(
-    kinds: &[u8],
-    values: &[u32],
+    tokens: &Tokens<'_>,
     many: usize,
     labels: &mut [u32],
     count: u32,
     next: u32,
 ) -> Result<u32, Failure>
-    ensures { SetsAll labels.old count next (labels_at many kinds.now values.now) result labels.new }
+    ensures { SetsAll labels.old count next (labels_at many tokens.now.kinds.now tokens.now.values.now) result labels.new }
 {
     let mut set = count;
     for i in 0..many {
-        let l = value_of(token_at(kinds, values, i * 2));
+        let l = value_of(token_at(tokens.kinds, tokens.values, i * 2));
         set = set_label(labels, set, next, l)?;
     }
     Ok(set)
@@ -94,17 +94,16 @@ fn is_fit(size: usize, count: u32, many: usize, s: u32) -> bool
 // Sets a statement's labels before the next instruction, behind the others of a table, and tells how many are set then. Free is what
 // the table holds behind the labels that are set then, and all that it holds where they are not.
 pub fn set_labels(
-    kinds: &[u8],
-    values: &[u32],
+    tokens: &Tokens<'_>,
     many: usize,
     labels: &mut [u32],
     count: u32,
     next: u32,
 ) -> Result<u32, Failure>
-    ensures { SetsLabels labels.old count next (labels_at many kinds.now values.now) result labels.new }
+    ensures { SetsLabels labels.old count next (labels_at many tokens.now.kinds.now tokens.now.values.now) result labels.new }
 {
     if is_fit(labels.len(), count, many, next) {
-        return set_all(kinds, values, many, labels, count, next);
+        return set_all(tokens, many, labels, count, next);
     }
     Err(Failure::Unfit)
 }

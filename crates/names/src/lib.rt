@@ -10,6 +10,7 @@ ghost use Rattle.names.specs.Answers.{LooksUp, Declares};
 ghost use Rattle.names.specs.Internal.{FindsAny, Sees};
 
 use base::{at, part};
+use grammar_look::Tokens;
 use name_index::{Names, Unfit, add, compare, find};
 use source::MOST_CELLS;
 
@@ -60,24 +61,22 @@ fn seen(cells: &[u8], kind: u8, value: u32, letters: &[u8], index: &[u32], v: u3
     word_of(letters, index, v, name)
 }
 
-// Looks the names of n tokens up: `words` becomes what they carry then, of as many tokens as it has places. Free is what it
+// Looks the names of tokens up: `words` becomes what they carry then, of as many tokens as it has places. Free is what it
 // holds behind them.
 pub fn look_up(
     cells: &[u8],
-    kinds: &[u8],
-    values: &[u32],
-    n: usize,
+    tokens: &Tokens<'_>,
     letters: &[u8],
     index: &[u32],
     v: u32,
     words: &mut [u32],
 )
-    ensures seen { LooksUp (min n (length words.old)) cells.now kinds.now values.now v letters.now index.now words.new }
+    ensures seen { LooksUp (min tokens.now.count (length words.old)) cells.now tokens.now.kinds.now tokens.now.values.now v letters.now index.now words.new }
     ensures kept { length words.new ≡ length words.old }
 {
-    for i in 0..n.min(words.len()) {
-        let kind = at(kinds, i, 0);
-        let value = at(values, i, 0);
+    for i in 0..tokens.count.min(words.len()) {
+        let kind = at(tokens.kinds, i, 0);
+        let value = at(tokens.values, i, 0);
         words[i] = seen(cells, kind, value, letters, index, v);
     }
 }
@@ -111,23 +110,21 @@ fn declare_one(
     Ok(add(letters, index, others, found.place, name)?)
 }
 
-// Declares the names among n tokens behind others. Free is what the arrays hold behind the names that there are then, and all that
+// Declares the names among tokens behind others. Free is what the arrays hold behind the names that there are then, and all that
 // they hold where they are not declared.
 pub fn declare(
     cells: &[u8],
-    kinds: &[u8],
-    values: &[u32],
-    n: usize,
+    tokens: &Tokens<'_>,
     letters: &mut [u8],
     index: &mut [u32],
     others: Names,
 ) -> Result<Names, Failure>
-    ensures { Declares (names_in (lexemes_from 0 n cells.now kinds.now values.now)) others.count others.letters letters.old index.old result letters.new index.new }
+    ensures { Declares (names_in (lexemes_from 0 tokens.now.count cells.now tokens.now.kinds.now tokens.now.values.now)) others.count others.letters letters.old index.old result letters.new index.new }
 {
     let mut names = others;
-    for i in 0..n {
-        let kind = at(kinds, i, 0);
-        let value = at(values, i, 0);
+    for i in 0..tokens.count {
+        let kind = at(tokens.kinds, i, 0);
+        let value = at(tokens.values, i, 0);
         names = declare_one(cells, kind, value, letters, index, names)?;
     }
     Ok(names)

@@ -10,7 +10,7 @@ returns-in-Ok c = let a = c.args in
       short = λ few q h small room.
           let letters = few_letters a.s t.result _ _ _ _ t.ensures.read few (omega arith) (omega arith) _ z in
           by_cells a.s t.result _ _ _ _ t.ensures.read few (omega arith) (omega arith) q a.k _ z
-          (rw (← c.part.ensures) (c.on_tokens.ensures q h small (rw c.part.ensures (omega (arith, room, letters)))));
+          (rw (← c.part-cells.ensures) (c.on_tokens.ensures q h small (rw c.part-cells.ensures (omega (arith, room, letters)))));
       long = λ many. let few = short_tokens a.s t.result _ _ _ _ t.ensures.read _ z in absurd (omega (arith, many, few));
     }
 

@@ -13,7 +13,7 @@ returns-in_err-set c =
     let here = c.value_of-l.ensures ∙ ap token_carried c.token_at.ensures in
     rw (p.1, p.2) (record {
       kept = c.set_label.ensures.kept ∙ c.loop-i.invariant.0;
-      told = λ room. loop_fails _ _ _ (label_here c.args.kinds.now c.args.values.now) _ _ _ _ _ here c.loop-i-test.true _ _ _ c.in_err-set.was c.loop-i.invariant.0 room (c.loop-i.invariant.3 room) c.set_label.ensures;
+      told = λ room. loop_fails _ _ _ (label_here c.args.tokens.now.kinds.now c.args.tokens.now.values.now) _ _ _ _ _ here c.loop-i-test.true _ _ _ c.in_err-set.was c.loop-i.invariant.0 room (c.loop-i.invariant.3 room) c.set_label.ensures;
     })
 
 pub loop-i-preserved : goal.loop-i-preserved
@@ -22,8 +22,8 @@ loop-i-preserved c =
       c.set_label.ensures.kept ∙ c.loop-i.invariant.0,
       let q = subst (InRows _) c.in_ok-set.was c.set_label.ensures.in_rows in omega (arith, q.0, c.loop-i.invariant.1),
       let q = subst (InRows _) c.in_ok-set.was c.set_label.ensures.in_rows in omega (arith, q.1),
-      λ room. loop_more _ _ _ (label_here c.args.kinds.now c.args.values.now) _ _ _ _ _ here c.loop-i-test.true _ _ _ c.in_ok-set.was c.loop-i.invariant.0 room (c.loop-i.invariant.3 room) c.set_label.ensures,
+      λ room. loop_more _ _ _ (label_here c.args.tokens.now.kinds.now c.args.tokens.now.values.now) _ _ _ _ _ here c.loop-i-test.true _ _ _ c.in_ok-set.was c.loop-i.invariant.0 room (c.loop-i.invariant.3 room) c.set_label.ensures,
     )
 
 pub returns : goal.returns
-returns c = record { kept = c.loop-i.invariant.0; told = λ room. loop_ends _ _ _ (label_here c.args.kinds.now c.args.values.now) _ _ _ _ c.loop-i-test.false (c.loop-i.invariant.3 room) }
+returns c = record { kept = c.loop-i.invariant.0; told = λ room. loop_ends _ _ _ (label_here c.args.tokens.now.kinds.now c.args.tokens.now.values.now) _ _ _ _ c.loop-i-test.false (c.loop-i.invariant.3 room) }

@@ -9,10 +9,10 @@ use Rattle.labels.proofs.set_labels.Goals as goal
 
 pub returns-then-is_fit : goal.returns-then-is_fit
 returns-then-is_fit c =
-    let many = sym (each_length (label_here c.args.kinds.now c.args.values.now) 0 c.args.many) in
+    let many = sym (each_length (label_here c.args.tokens.now.kinds.now c.args.tokens.now.values.now) 0 c.args.many) in
     set_fit _ _ _ _ _ (c.is_fit.ensures ∙ ap (λ m. fit (length c.args.labels.now) (c.args.count + m) c.args.next) many) c.if-is_fit.true _ _ c.set_all.ensures
 
 pub returns : goal.returns
 returns c =
-    let many = sym (each_length (label_here c.args.kinds.now c.args.values.now) 0 c.args.many) in
+    let many = sym (each_length (label_here c.args.tokens.now.kinds.now c.args.tokens.now.values.now) 0 c.args.many) in
     set_unfit _ _ _ _ _ (c.is_fit.ensures ∙ ap (λ m. fit (length c.args.labels.now) (c.args.count + m) c.args.next) many) c.if-is_fit.false
