@@ -127,9 +127,9 @@ fn number_all(orders: &[u64], first: u32, table: &mut [u32])
     let mut here = true;
     let mut k = 0;
     let mut n = 1;
-    for i in 0..orders.len() {
+    for (i, &w) in orders.iter().enumerate() {
         table[i] = n;
-        let q = role_of(order_in(orders[i]), first);
+        let q = role_of(order_in(w), first);
         n = number_behind(here, q, n);
         here = ends(q, k);
         k = inner(q, k);
