@@ -32,11 +32,7 @@ fn lead_of(x: u64) -> Option<(Relation, u32)>
 pub fn lead_at(orders: &[u64], at: usize) -> Option<(Relation, u32)>
     ensures { result ≡ lead_at at orders.now }
 {
-    if at < orders.len() {
-        lead_of(orders[at])
-    } else {
-        None
-    }
+    lead_of(*orders.get(at)?)
 }
 
 // How many of n branches are left behind an order.

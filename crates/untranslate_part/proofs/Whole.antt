@@ -6,6 +6,7 @@ use mathlib.Core.List.{List, [], ◌∷◌}
 use native.Mathlib.Omega.{arith}
 use lib.ListN.{length, length-append, length-map}
 use lib.Seq.{sets}
+use Rattle.std.specs.Prelude.{Some}
 use Rattle.order.specs.declared.Order.TheVariants.{Stop}
 use Rattle.order.specs.Memory.{order_in, orders_in}
 use Rattle.sheet.specs.Sheet.{Part, count, sheet}
@@ -29,10 +30,10 @@ module _ (os : List ℕ) (v : ℕ) (fs : List ℕ) where
       → length os ≤ length base
       → (r : ℕ) (after : List ℕ)
       → Parting os table 0 (length os - 1) (v + 2) most_levels fs 0 r after
-      → Guessing os v fs r after
+      → Guessing os v fs (Some r) after
   guess_read base table filled fits r after part = record {
     kept = part.safe.kept;
-    inside = part.safe.inside (omega arith);
+    inside = λ n e. let same : r ≡ n = cc in omega (arith, same, part.safe.inside (omega arith));
     whole = λ x formed shallow same few_variables few_orders room.
         let many = sheet_length v x os same in
         let w = part.whole v (count x) (first_order v x) x (Stop ∷ [])
@@ -50,5 +51,5 @@ module _ (os : List ℕ) (v : ℕ) (fs : List ℕ) where
           more = omega arith;
         })
         (omega (arith, room)) in
-        record { many = w.place ∙ omega arith; fields = w.fields };
+        record { many = ap Some (w.place ∙ omega arith); fields = w.fields };
   }

@@ -1,5 +1,5 @@
 -- What a guess is worth: it is right on translations, and may be anything elsewhere.
-use Rattle.std.specs.Prelude.{ℕ, ◌≤◌, ◌≡◌, List, map, length}
+use Rattle.std.specs.Prelude.{ℕ, ◌≤◌, ◌≡◌, List, map, length, Option, Some}
 use Rattle.std.proofs.lemmas.List.Edits.{sets}
 use Rattle.order.specs.Limits.{most_variables, most_orders}
 use Rattle.order.specs.Memory.{orders_in}
@@ -10,13 +10,13 @@ use Rattle.sheet.specs.Memory.{part_fields}
 use Rattle.sheet_field.specs.Memory.{field_word}
 
 -- the fields of x, from the front of the array on, and how many they are
-pub record Guessed (x : Part) (fs : List ℕ) (r : ℕ) (after : List ℕ) : Type 0 where
-  pub many : r ≡ length (part_fields x)
+pub record Guessed (x : Part) (fs : List ℕ) (r : Option ℕ) (after : List ℕ) : Type 0 where
+  pub many : r ≡ Some (length (part_fields x))
   pub fields : after ≡ sets fs 0 (map field_word (part_fields x))
 
-pub record Guessing (os : List ℕ) (v : ℕ) (fs : List ℕ) (r : ℕ) (after : List ℕ) : Type 0 where
+pub record Guessing (os : List ℕ) (v : ℕ) (fs : List ℕ) (r : Option ℕ) (after : List ℕ) : Type 0 where
   pub kept : length after ≡ length fs
-  pub inside : r ≤ length fs
+  pub inside : (n : ℕ) → r ≡ Some n → n ≤ length fs
   pub whole :
       (x : Part)
       → PartFormed v (count x) x

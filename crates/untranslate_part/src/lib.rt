@@ -127,9 +127,9 @@ fn number_all(orders: &[u64], first: u32, table: &mut [u32])
     let mut here = true;
     let mut k = 0;
     let mut n = 1;
-    for i in 0..orders.len() {
+    for (i, &w) in orders.iter().enumerate() {
         table[i] = n;
-        let q = role_of(order_in(orders[i]), first);
+        let q = role_of(order_in(w), first);
         n = number_behind(here, q, n);
         here = ends(q, k);
         k = inner(q, k);
@@ -346,16 +346,17 @@ fn read_group(
     read_part(orders, table, at, end, first, deep, fields, m)
 }
 
-// The fields of the sheet with v variables whose translation the orders are, put at the front of the array; how many they are.
-pub fn guess(orders: &[u64], v: u32, fields: &mut [u64]) -> usize
+// The fields of the sheet with v variables whose translation the orders are, put at the front of the array: how many they are; or
+// none, where there are too many variables or orders, or no order, so that no sheet has them.
+pub fn guess(orders: &[u64], v: u32, fields: &mut [u64]) -> Option<usize>
     ensures { Guessing orders.now v fields.old result fields.new }
 {
     if order::MOST_VARIABLES < v || MOST_ORDERS < orders.len() || orders.is_empty() {
-        return 0;
+        return None;
     }
     let first = v + 2;
     let last = orders.len() - 1;
     let mut table = [0; MOST_ORDERS];
     number_all(orders, first, &mut table);
-    read_part(orders, &table, 0, last, first, MOST_LEVELS, fields, 0)
+    Some(read_part(orders, &table, 0, last, first, MOST_LEVELS, fields, 0))
 }

@@ -1,6 +1,5 @@
-use Rattle.std.proofs.Common.{sym, rules}
+use Rattle.std.proofs.Common.{sym, rules, arith}
 use Rattle.order.specs.Memory.{order_of, shapes}
-use Rattle.base.proofs.Arms.{none_of}
 use Rattle.order.proofs.Numbers.{no_order}
 use Rattle.machine_step.proofs.carry_out.Goals as goal
 
@@ -158,4 +157,4 @@ returns-in-37 c = rw c.in-37.is (search rules)
 
 pub returns-in_default : goal.returns-in_default
 unfolding order_of shapes
-returns-in_default c = rw (sym (no_order _ c.args.v (none_of 38 _ c.in_default.in_default-own.rest)), c.end_with-in_default.ensures)
+returns-in_default c = rw (sym (no_order c.args.number c.args.v (omega arith)), c.end_with-in_default.ensures)

@@ -80,4 +80,4 @@ pub returns-in_default : goal.returns-in_default
 unfolding shapes
 returns-in_default c =
     let a = c.args in
-    none_met a.orders.now a.r a.words.now a.output.now _ _ c.at-w.ensures c.in_default.in_default-own.rest refl
+    none_met a.orders.now a.r a.words.now a.output.now _ _ c.at-w.ensures (search) refl
