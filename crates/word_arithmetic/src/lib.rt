@@ -46,7 +46,7 @@ pub fn sub(a: u32, b: u32) -> u32
 pub fn mul(a: u32, b: u32) -> u32
     ensures { result ≡ product a b }
 {
-    a.wrapping_mul(b)
+    (a as u64 * b as u64 % 4294967296) as u32
 }
 
 // The integer that a pattern stands for.
