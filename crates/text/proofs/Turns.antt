@@ -1,34 +1,51 @@
 -- The turns of the loops that read a fixed string and a number: each is stated of the text left at place i.
 use Prim.Native.Nat.{ℕ, ◌+◌, ◌-◌, ◌*◌, ◌<◌, ◌≤◌}
-use mathlib.Core.Path.{◌≡◌, refl}
+use mathlib.Core.Path.{◌≡◌, refl, sym, ap, ◌∙◌}
 use mathlib.Core.Logic.{◌⊎◌, inl, inr}
 use native.Mathlib.Omega.{arith}
 use mathlib.Core.List.{List, [], ◌∷◌}
-use borrow.Author.Tests.{lt-ltb, le-ltb}
+use borrow.Author.Tests.{lt-ltb, le-ltb, eq-eqb, ne_eqb}
 use lib.Dec.{ltb, eqb}
-use lib.Pointwise.{pointwise}
-use mathlib.Core.Bool.{true, false}
 use Rattle.base.proofs.Cases.{by_test}
 use lib.ListN.{length, get_or, take, drop, drop_of_length-le}
+use Rattle.std.proofs.lemmas.List.{get_or-take, length-take}
 use Rattle.base.specs.Choice.{pick}
 use Rattle.base.specs.Front.{found, missing}
 use Rattle.base.proofs.Lists.{drop_more}
 use Rattle.text.specs.Pieces.{Front, fixed, digits, numeral, greatest_number}
 
--- a fixed string, by the comparison of the text's front with it
-pub fixed_equal : (cs l : List ℕ) → pointwise eqb (take (length cs) l) cs ≡ true → found [] (drop (length cs) l) ≡ fixed cs l
+-- a text that ends before a fixed string
+shorter : (string l : List ℕ) → length l < length string → missing ≡ fixed string l
 unfolding fixed pick
-fixed_equal [] l e = refl
-fixed_equal (c ∷ cs) [] e = cc
-fixed_equal (c ∷ cs) (b ∷ l) e =
-    by_test (eqb b c) (λ y. rw y (fixed_equal cs l (rw y at e))) (λ n. let z = rw n at e in cc)
+shorter [] l h = absurd (omega arith)
+shorter (c ∷ cs) [] h = refl
+shorter (c ∷ cs) (b ∷ l) h = by_test (eqb b c) (λ y. rw y (shorter cs l (omega (arith, h)))) (λ n. rw n refl)
 
-pub fixed_unequal : (cs l : List ℕ) → pointwise eqb (take (length cs) l) cs ≡ false → missing ≡ fixed cs l
-unfolding fixed pick
-fixed_unequal [] l e = cc
-fixed_unequal (c ∷ cs) [] e = refl
-fixed_unequal (c ∷ cs) (b ∷ l) e =
-    by_test (eqb b c) (λ y. rw y (fixed_unequal cs l (rw y at e))) (λ n. rw n refl)
+-- a fixed string, of the text l; `there` is what stands in its place
+module _ (string l : List ℕ) where
+  pub fixed_short : length (take (length string) l) < length string → missing ≡ fixed string l
+  fixed_short g = shorter string l (omega (arith, g, length-take (length string) l))
+
+  module _ (k : ℕ) where
+    -- it is read to its end
+    pub fixed_over : length string ≤ k → found [] (drop k l) ≡ fixed (drop k string) (drop k l)
+    unfolding fixed
+    fixed_over h = rw (drop_of_length-le string h) refl
+
+    module _ (there : List ℕ) (is : there ≡ take (length string) l) (long : length string ≤ length there) (h : k < length string) where
+      inside : k < length l
+      inside = omega (arith, h, long, ap length is, length-take (length string) l)
+
+      same : get_or there k 0 ≡ get_or l k 0
+      same = ap (λ x. get_or x k 0) is ∙ get_or-take (length string) l k 0 h
+
+      pub fixed_other : (get_or there k 0 ≡ get_or string k 0 → ⊥) → missing ≡ fixed (drop k string) (drop k l)
+      unfolding fixed pick
+      fixed_other n = rw (drop_more string k 0 h, drop_more l k 0 inside, ne_eqb _ _ (λ e. n (same ∙ e))) refl
+
+      pub fixed_turn : get_or there k 0 ≡ get_or string k 0 → fixed (drop (k + 1) string) (drop (k + 1) l) ≡ fixed (drop k string) (drop k l)
+      unfolding fixed pick
+      fixed_turn e = rw (drop_more string k 0 h, drop_more l k 0 inside, eq-eqb _ _ (sym same ∙ e)) refl
 
 -- a byte that is no digit, and one that is
 module _ {A : Type 0} (b : ℕ) (x : Front A) where

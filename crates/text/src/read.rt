@@ -11,11 +11,16 @@ pub fn fixed_at(s: &[u8], at: usize, string: &[u8]) -> Option<usize>
     ensures read { behind s.now result ≡ fixed string.now (drop at s.now) }
     ensures place { PlaceIs (at + length string.now) result }
 {
-    if part(s, at, string.len()) == string {
-        Some(at + string.len())
-    } else {
-        None
+    let there = part(s, at, string.len());
+    if there.len() < string.len() {
+        return None;
     }
+    for (k, &b) in string.iter().enumerate() {
+        if there[k] != b {
+            return None;
+        }
+    }
+    Some(at + string.len())
 }
 
 // The digits of a number behind the first, and the byte that closes its field.
