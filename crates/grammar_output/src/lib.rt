@@ -34,7 +34,7 @@ pub fn put(fields: &mut [u64], out: usize, f: Field)
     fields[out] = packed(f);
 }
 
-// Puts a field at place p; those from there on move up by one. `rotate_right` would want `memmove` of others than the archive.
+// Puts a field at place p; those from there on move up by one. With `rotate_right` the archive would want `memmove` from outside.
 pub fn insert(fields: &mut [u64], p: usize, out: usize, f: Field)
     requires { (out < length fields.old) × (p ≤ out) }
     ensures { fields_from 0 (out + 1) fields.new ≡ insert_at p f (fields_from 0 out fields.old) }
