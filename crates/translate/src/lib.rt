@@ -95,7 +95,7 @@ fn first_of(firsts: &[u32], n: usize, last: u32, s: u32) -> u32
     if k < n { at(firsts, k, last) } else { last }
 }
 
-// An order's number, with the address of its instruction where it is a jump.
+// An order's number, with the address of its instruction where it is a jump. The number is asked, not the enum: all orders come here.
 fn led(w: u64, firsts: &[u32], n: usize, last: u32) -> u64
     ensures { result ≡ led_word (take n firsts.now) last w }
 {

@@ -43,6 +43,7 @@ pub fn sub(a: u32, b: u32) -> u32
     a.wrapping_sub(b)
 }
 
+// Document 01: "product and power as helpers modulo 2 to the 32".
 pub fn mul(a: u32, b: u32) -> u32
     ensures { result ≡ product a b }
 {
