@@ -25,7 +25,7 @@ use Rattle.tokens_constant.specs.Internal.{CharacterIs}
 
 -- ---- decimal constants
 
-digit_yes : (c : ℕ) → (48 ≤ c) × (c ≤ 57) → is_digit c ≡ true
+pub digit_yes : (c : ℕ) → (48 ≤ c) × (c ≤ 57) → is_digit c ≡ true
 unfolding pick
 digit_yes c digit = rw (le-leb 48 c digit.0, le-leb c 57 digit.1)
 
