@@ -15,8 +15,8 @@ pub fn fixed_at(s: &[u8], at: usize, string: &[u8]) -> Option<usize>
     if there.len() < string.len() {
         return None;
     }
-    for (k, &b) in string.iter().enumerate() {
-        if there[k] != b {
+    for k in 0..string.len() {
+        if there[k] != string[k] {
             return None;
         }
     }
