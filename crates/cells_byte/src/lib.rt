@@ -9,6 +9,7 @@ ghost use Rattle.cells_byte.specs.Internal.{kept_of, closes_of, newline_of, excl
 ghost use Rattle.cells_byte.specs.Internal.{ending_outside, ending_of};
 
 use source::{MOST_CELLS, Mode, Refusal};
+use token_number::letters::{is_capital, is_small};
 
 // One cell more and the mode behind it, none, or one less; or the end of the statement.
 #[derive(Clone, Copy)]
@@ -84,7 +85,7 @@ fn outside(c: u8, m: Mode, b: u8, held: usize, last: u8) -> Result<Change, Refus
     ensures { result ≡ outside_of c m b held last }
 {
     match b {
-        b'A'..=b'Z' | b'a'..=b'z' => kept(c, m, held),
+        _ if is_capital(b) || is_small(b) => kept(c, m, held),
         b' ' => Ok(Change::Skip(Mode::Plain)),
         b'\n' => newline(held, last),
         b'%' => Ok(Change::Skip(Mode::Keyword)),
@@ -119,9 +120,12 @@ fn behind_comment(b: u8) -> Mode
 pub fn change_by(mode: Mode, b: u8, held: usize, last: u8) -> Result<Change, Refusal>
     ensures { result ≡ change_of mode b held last }
 {
+    let c = match mode {
+        Mode::Keyword => b.to_ascii_lowercase(),
+        _ => b.to_ascii_uppercase(),
+    };
     match mode {
-        Mode::Plain => outside(b.to_ascii_uppercase(), Mode::Plain, b, held, last),
-        Mode::Keyword => outside(b.to_ascii_lowercase(), Mode::Keyword, b, held, last),
+        Mode::Plain | Mode::Keyword => outside(c, mode, b, held, last),
         Mode::Quoted => quoted(b, held),
         Mode::Comment => Ok(Change::Skip(behind_comment(b))),
     }

@@ -55,7 +55,8 @@ fn show_bytes<R: Print>(rt: &R, what: &str, bytes: &[u8]) -> io::Result<()> {
     println!(rt; "")
 }
 
-// The sheet of an object, or the refusal.
+// The sheet of an object, or the refusal. Its buffer is on the stack while it runs and no longer, since it is part of no caller.
+#[inline(never)]
 fn read_back<R: Print>(rt: &R, object: &[u8]) -> io::Result<()> {
     let mut text = [0u8; MOST_SHEET_BYTES];
     let reply = Reply(skimp::skimp_read_back(object, &mut text));

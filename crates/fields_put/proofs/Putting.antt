@@ -1,5 +1,5 @@
 -- Fields put behind others.
-use Prim.Native.Nat.{ℕ, ◌+◌, ◌<◌, ◌≤◌}
+use Prim.Native.Nat.{ℕ, ◌+◌, ◌-◌, ◌<◌, ◌≤◌}
 use mathlib.Core.Path.{◌≡◌, refl, sym, ap, ap₂, ◌∙◌}
 use mathlib.Core.Bool.{Bool, false}
 use mathlib.Core.List.{List, [], ◌∷◌, ◌++◌, map, append-nil, append_assoc}
@@ -9,6 +9,7 @@ use borrow.Author.Tests.{le-leb, lt-leb}
 use lib.Dec.{leb}
 use lib.ListN.{length, get_or, take, length-map, length-set}
 use Rattle.base.specs.Choice.{pick}
+use Rattle.base.proofs.Cases.{by_less}
 use Rattle.sheet.specs.declared.Field.{Field}
 use Rattle.sheet_field.specs.Memory.{field_word, field_in, fields_at, fields_from}
 use Rattle.sheet_field.proofs.Stored.{fields_parted, field_stored, fields_held}
@@ -89,6 +90,17 @@ module _ (k : ℕ) (own : List ℕ) (at : ℕ) (ws : List ℕ) where
         let same : i ≡ length own = omega (arith, p.inside) in
         let long = ap (λ n. at + n) (held_length own) in
         rw (long, le-leb (at + length own) (length ws) room) (ap fields (rw (same, all_held own) at p.put))
+
+-- ---- any array
+
+pub no_places : (room at n : ℕ) → room < n → false ≡ leb (at + n) room
+no_places room at n h = sym (lt-leb (at + n) room (omega arith))
+
+pub places_left : (room at n : ℕ) → n ≤ room → leb at (room - n) ≡ leb (at + n) room
+places_left room at n h =
+    by_less (room - n) at
+    (λ less. lt-leb at (room - n) less ∙ sym (lt-leb (at + n) room (omega arith)))
+    (λ more. le-leb at (room - n) more ∙ sym (le-leb (at + n) room (omega arith)))
 
 module _ (k : ℕ) (fs : List Field) (at : ℕ) (ws : List ℕ) where
   -- with room for the fields

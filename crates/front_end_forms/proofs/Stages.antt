@@ -2,6 +2,7 @@
 use Prim.Native.Nat.{ℕ}
 use mathlib.Core.Path.{◌≡◌, refl, sym, ◌∙◌}
 use mathlib.Core.List.{List}
+use Rattle.sheet.specs.Sheet.{Sheet}
 use Rattle.source.specs.Tokens.{Lexeme}
 use Rattle.source.specs.Grammar.{Instruction, Form, ending, labels, instruction, finish, finish_else}
 use Rattle.source.specs.Program.{Program, Stage, nothing, declarations, instructions, Outcome, refused, further, in_order}
@@ -12,10 +13,11 @@ use Rattle.source.specs.declared.Refusal.TheVariants.{Form as NoForm}
 use Rattle.source.specs.Refusals.{refusal_number}
 use Rattle.front_end_forms.specs.declared.Stage.TheVariants.{Nothing}
 use Rattle.front_end_forms.specs.declared.Progress.{Progress}
+use Rattle.front_end_forms.specs.declared.Step.TheVariants.{Further}
 use Rattle.front_end_forms.specs.declared.Failure.{Failure}
 use Rattle.front_end_forms.specs.declared.Failure.TheVariants.{Refused, Unfit}
 use Rattle.front_end_forms.specs.Memory.{NameTable, stage_of, Holds}
-use Rattle.front_end_forms.specs.Answers.{Comes, refuses, comes, Goes}
+use Rattle.front_end_forms.specs.Answers.{Comes, refuses, comes, Goes, Steps}
 
 -- ---- the outcome that an answer stands for, where the outcome is known
 
@@ -24,6 +26,10 @@ comes_refused {A} {T} e k same = rw same (refuses e k)
 
 pub comes_further : {P : Program → Progress → Type 0} {o : Outcome} (q : Program) (p : Progress) → o ≡ further q → P q p → Comes (Goes P) (Ok p) o
 comes_further q p e h = comes p _ (record { program = q; same = e; kept = h })
+
+pub steps_further : {P : Program → Progress → Type 0} {G : Sheet → Type 0} {o : Outcome} (q : Program) (p : Progress) → o ≡ further q → P q p
+    → Comes (Steps P G) (Ok (Further p)) o
+steps_further q p e h = comes (Further p) _ (record { program = q; same = e; kept = h })
 
 -- ---- what an answer says of its outcome
 

@@ -23,12 +23,14 @@ use sheet_field::{MOST_COMPARISONS, MOST_LEVELS};
 use source::{MOST_LABELS, Refusal};
 use translate_size::size_of;
 
-// What of a program was read: nothing, `%BEGIN` or declarations behind it, or labels or instructions.
+// What of a program was read: nothing, `%BEGIN` or declarations behind it, or labels or instructions. The functions take any other
+// stage too that a caller may count by; nothing that is read here is ever in one.
 #[derive(Clone, Copy, Debug, PartialEq, Eq)]
 pub enum Stage {
     Nothing,
     Declarations,
     Instructions,
+    Other(u8),
 }
 
 // How far a program was read, and how many names, labels, fields, instructions, orders and open groups there are.

@@ -28,7 +28,7 @@ use Rattle.grammar.specs.Answers.{begins, declares, ends, labels as labels_told,
 use Rattle.grammar.specs.Answers.{instruction_told, fields_of, labels_in, fit, told_of}
 use Rattle.grammar.specs.Internal.{further_all, all_of, LabelsOf}
 
-ahead_all : (toks : Tokens) → ahead toks 0 ≡ all_of toks
+pub ahead_all : (toks : Tokens) → ahead toks 0 ≡ all_of toks
 ahead_all toks = let e : toks.count - 0 ≡ toks.count = omega arith in ap (λ m. tokens_from 0 m toks.kinds.now toks.values.now) e
 
 -- ---- name lists

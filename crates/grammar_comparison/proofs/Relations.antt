@@ -76,11 +76,11 @@ module _ (toks : Tokens) (at d : ℕ) where
       → holds_relation (d + 1) (ahead toks (at + 1)) ≡ holds_relation d (ahead toks at)
   sees_open h e = ap (holds_relation (d + 1)) (ahead_behind toks at h) ∙ open_seen d (ahead toks at) e
 
-  sees_end : opens mark_open (ahead toks at) ≡ false → opens mark_close (ahead toks at) ≡ true → d ≡ 0
+  pub sees_end : opens mark_open (ahead toks at) ≡ false → opens mark_close (ahead toks at) ≡ true → d ≡ 0
       → false ≡ holds_relation d (ahead toks at)
   sees_end f e z = inner_end d (λ k. holds_relation k (behind_first (ahead toks at))) z ∙ close_seen d (ahead toks at) f e
 
-  sees_close : at < toks.count → opens mark_open (ahead toks at) ≡ false → opens mark_close (ahead toks at) ≡ true → (d ≡ 0 → ⊥)
+  pub sees_close : at < toks.count → opens mark_open (ahead toks at) ≡ false → opens mark_close (ahead toks at) ≡ true → (d ≡ 0 → ⊥)
       → holds_relation (d - 1) (ahead toks (at + 1)) ≡ holds_relation d (ahead toks at)
   sees_close h f e z =
       ap (holds_relation (d - 1)) (ahead_behind toks at h)

@@ -1,5 +1,5 @@
 -- The functions that read an instruction, one lemma for each of their returns.
-use Prim.Native.Nat.{ℕ, ◌+◌, ◌<◌}
+use Prim.Native.Nat.{ℕ, ◌+◌, ◌<◌, ◌≤◌}
 use mathlib.Core.Path.{◌≡◌, refl, ap, ◌∙◌}
 use mathlib.Core.Bool.{Bool, true, false}
 use mathlib.Core.List.{List, [], ◌∷◌, ◌++◌, append_assoc}
@@ -21,10 +21,12 @@ use Rattle.grammar_look.proofs.Places.{ahead_behind}
 use Rattle.grammar_output.specs.declared.Step.{Step}
 use Rattle.grammar_output.specs.Internal.{written}
 use Rattle.grammar_expression.specs.Internal.{stepped}
+use Rattle.grammar_expression.proofs.Closing.{moved_later}
 use Rattle.grammar_simple.specs.Internal.{simple_pass}
 use Rattle.grammar_condition.specs.Internal.{condition_pass}
-use Rattle.grammar_instruction.specs.declared.Instructed.TheVariants.{Whole}
-use Rattle.grammar_instruction.specs.Internal.{Output, whole, opening, output_in, output_of}
+use Rattle.grammar_instruction.specs.declared.Instructed.{Instructed}
+use Rattle.grammar_instruction.specs.declared.Instructed.TheVariants.{Whole, Opening}
+use Rattle.grammar_instruction.specs.Internal.{Output, whole, opening, output_in, MovedOn, output_of}
 use Rattle.grammar_instruction.specs.Internal.{alternative_pass, otherwise_pass, lone_pass, whole_pass, consequent_pass, conditional_pass, instruction_pass}
 
 -- ---- what the passes come to
@@ -114,6 +116,12 @@ whole_in : (toks : Tokens) (ws : List ℕ) (s : Option Step) → output_in toks 
 unfolding next
 whole_in toks ws (Some s) = refl
 whole_in toks ws None = refl
+
+pub moved_on : (d e n at out at₁ out₁ : ℕ) (r : Option Instructed) → MovedOn d n at₁ out₁ r → at + e ≤ at₁ + d → out ≤ out₁
+    → out₁ + at ≤ at₁ + out → MovedOn e n at out r
+moved_on d e n at out at₁ out₁ (Some (Whole s)) m h g f = moved_later d e n at out at₁ out₁ (Some s) m h g f
+moved_on d e n at out at₁ out₁ (Some (Opening s)) m h g f = moved_later d e n at out at₁ out₁ (Some s) m h g f
+moved_on d e n at out at₁ out₁ None m h g f = tt
 
 -- ---- the returns
 

@@ -3,10 +3,10 @@ use Prim.Native.Nat.{ℕ, suc, ◌+◌, ◌-◌, ◌<◌, ◌≤◌}
 use mathlib.Core.Path.{◌≡◌, refl, sym, ap, ap₂, ◌∙◌}
 use mathlib.Core.List.{List, [], ◌∷◌, ◌++◌, map}
 use native.Mathlib.Omega.{arith}
-use lib.ListN.{length, set, length-set, take, drop}
-use lib.Seq.{take_at, drop_at, take-suc-set, take-append_seam, drop-append_seam}
+use lib.ListN.{length, get_or, set, take, drop, drop_of_length-le}
+use lib.Seq.{take_all, take_at, drop_at, take-suc, take-append_seam}
 use borrow.Rule.Slice.PartMut.{put_mid, mid_of, same_len_mid}
-use Rattle.std.proofs.lemmas.List.{drop-take, drop-append-le, length-take-le, length-drop, length-append, take-take, take-set-le, map-append, take-map, drop-map}
+use Rattle.std.proofs.lemmas.List.{drop-take, drop-append-le, length-take-le, length-drop, length-append, take-take, map-append, take-map, drop-map}
 use Rattle.std.proofs.lemmas.Slice.{take-put_mid}
 use Rattle.sheet.specs.declared.Field.{Field}
 use Rattle.sheet_field.specs.Memory.{carried, field_word, field_in, fields_from}
@@ -17,43 +17,43 @@ pub insert_at_seam : (fs gs : List Field) (p : ℕ) (f : Field) → length fs �
 unfolding insert_at
 insert_at_seam fs gs p f e = rw (take_at fs gs p e, drop_at fs gs p e) refl
 
--- the words up to place `out`, where w stands there: those before it, and w
-part_turned : (p out w : ℕ) (ws : List ℕ) → p ≤ out → out < length ws
-    → mid_of p (out + 1 - p) (set ws out w) ≡ drop p (take out ws) ++ (w ∷ [])
-part_turned p out w ws h g =
+-- the words from place p on, up to place `out`
+part_last : (p out : ℕ) (ws : List ℕ) → p ≤ out → out < length ws
+    → mid_of p (out + 1 - p) ws ≡ drop p (take out ws) ++ (get_or ws out 0 ∷ [])
+part_last p out ws h g =
     let many : p + (out + 1 - p) ≡ suc out = omega arith in
-    sym (drop-take p (out + 1 - p) (set ws out w))
-    ∙ ap (λ m. drop p (take m (set ws out w))) many
-    ∙ ap (drop p) (take-suc-set ws out w g)
-    ∙ drop-append-le p (take out ws) (w ∷ []) (rw (length-take-le out ws (omega arith)) h)
+    sym (drop-take p (out + 1 - p) ws)
+    ∙ ap (λ m. drop p (take m ws)) many
+    ∙ ap (drop p) (take-suc ws out 0 g)
+    ∙ drop-append-le p (take out ws) (get_or ws out 0 ∷ []) (rw (length-take-le out ws (omega arith)) h)
 
--- the last of them turned to the front
-turned : (xs : List ℕ) (w : ℕ) (ys : List ℕ) → ys ≡ xs ++ (w ∷ []) → drop (length ys - 1) ys ++ take (length ys - 1) ys ≡ w ∷ xs
-turned xs w ys e =
-    let many : length ys - 1 ≡ length xs = omega (arith, ap length e ∙ length-append xs (w ∷ [])) in
-    rw (many, e, drop-append_seam xs (w ∷ []), take-append_seam xs (w ∷ [])) refl
+-- all of them gone through: w stands before the others, and the last is held
+gone_through : (new xs : List ℕ) (i w held x : ℕ) → length new ≤ i → take i new ++ (held ∷ drop i new) ≡ w ∷ (xs ++ (x ∷ [])) → new ≡ w ∷ xs
+gone_through new xs i w held x h e =
+    let all : new ++ (held ∷ []) ≡ (w ∷ xs) ++ (x ∷ []) = rw (take_all i new h, drop_of_length-le new h) at e in
+    let many : length (w ∷ xs) ≡ length new =
+    omega (arith, sym (length-append new (held ∷ [])) ∙ ap length all ∙ length-append (w ∷ xs) (x ∷ [])) in
+    sym (take-append_seam new (held ∷ [])) ∙ ap (take (length new)) all ∙ take_at (w ∷ xs) (x ∷ []) (length new) many
 
--- a field that is put behind the others, and turned to place p
-pub inserted : (p out w : ℕ) (f : Field) (ws new : List ℕ) → (w ≡ field_word f) × (carried f < 4294967296)
-    → (out < length ws) × (p ≤ out)
-    → new ≡ drop (length (mid_of p (out + 1 - p) (set ws out w)) - 1) (mid_of p (out + 1 - p) (set ws out w))
-    ++ take (length (mid_of p (out + 1 - p) (set ws out w)) - 1) (mid_of p (out + 1 - p) (set ws out w))
-    → fields_from 0 (out + 1) (put_mid p (out + 1 - p) (set ws out w) new) ≡ insert_at p f (fields_from 0 out ws)
+-- what the loop leaves where it began with the number of a field
+pub inserted : (p out i w held : ℕ) (f : Field) (ws new : List ℕ) → (w ≡ field_word f) × (carried f < 4294967296)
+    → (out < length ws) × (p ≤ out) → length new ≤ i → take i new ++ (held ∷ drop i new) ≡ w ∷ mid_of p (out + 1 - p) ws
+    → fields_from 0 (out + 1) (put_mid p (out + 1 - p) ws new) ≡ insert_at p f (fields_from 0 out ws)
 unfolding insert_at
-inserted p out w f ws new packed room e =
-    let part : new ≡ w ∷ drop p (take out ws) = e ∙ turned (drop p (take out ws)) w _ (part_turned p out w ws room.1 room.0) in
+inserted p out i w held f ws new packed room over e =
+    let last = part_last p out ws room.1 room.0 in
+    let part : new ≡ w ∷ drop p (take out ws) =
+    gone_through new (drop p (take out ws)) i w held (get_or ws out 0) over (e ∙ ap (λ l. w ∷ l) last) in
     let under : length (drop p (take out ws)) ≡ out - p =
     length-drop p (take out ws) ∙ ap (λ m. m - p) (length-take-le out ws (omega arith)) in
     let many : length new ≡ out + 1 - p = omega (arith, ap length part, under) in
-    let mid : length (mid_of p (out + 1 - p) (set ws out w)) ≡ out + 1 - p =
-    omega (arith, ap length (part_turned p out w ws room.1 room.0), length-append (drop p (take out ws)) (w ∷ []), under) in
-    let all : length (put_mid p (out + 1 - p) (set ws out w) new) ≡ length ws =
-    same_len_mid p (out + 1 - p) (set ws out w) new (many ∙ sym mid) ∙ length-set ws out w in
-    let words : take (out + 1) (put_mid p (out + 1 - p) (set ws out w) new) ≡ take p ws ++ (w ∷ drop p (take out ws)) =
-    take-put_mid p (out + 1 - p) (set ws out w) new (out + 1) (omega arith) (omega (arith, length-set ws out w))
-    ∙ ap₂ ◌++◌ (take-set-le p ws out w room.1) part in
+    let mid : length (mid_of p (out + 1 - p) ws) ≡ out + 1 - p =
+    omega (arith, ap length last, length-append (drop p (take out ws)) (get_or ws out 0 ∷ []), under) in
+    let all : length (put_mid p (out + 1 - p) ws new) ≡ length ws = same_len_mid p (out + 1 - p) ws new (many ∙ sym mid) in
+    let words : take (out + 1) (put_mid p (out + 1 - p) ws new) ≡ take p ws ++ (w ∷ drop p (take out ws)) =
+    take-put_mid p (out + 1 - p) ws new (out + 1) (omega arith) (omega arith) ∙ ap (λ l. take p ws ++ l) part in
     let old : fields_from 0 out ws ≡ map field_in (take out ws) = fields_front out ws (omega arith) in
-    fields_front (out + 1) (put_mid p (out + 1 - p) (set ws out w) new) (omega arith)
+    fields_front (out + 1) (put_mid p (out + 1 - p) ws new) (omega arith)
     ∙ ap (map field_in) words
     ∙ map-append field_in (take p ws) (w ∷ drop p (take out ws))
     ∙ ap₂ ◌++◌

@@ -34,13 +34,15 @@ pub fn put(fields: &mut [u64], out: usize, f: Field)
     fields[out] = packed(f);
 }
 
-// Puts a field at place p; those from there on move up by one.
+// Puts a field at place p; those from there on move up by one. With `rotate_right` the archive would want `memmove` from outside.
 pub fn insert(fields: &mut [u64], p: usize, out: usize, f: Field)
     requires { (out < length fields.old) × (p ≤ out) }
     ensures { fields_from 0 (out + 1) fields.new ≡ insert_at p f (fields_from 0 out fields.old) }
 {
-    fields[out] = packed(f);
-    fields[p..=out].rotate_right(1);
+    let mut held = packed(f);
+    for slot in fields[p..=out].iter_mut() {
+        held = std::mem::replace(slot, held);
+    }
 }
 
 // Where the left operand of an operator of the lowest level, the middle one and the highest one would start.

@@ -33,6 +33,11 @@ left_none fs i h = none (fields_at i fs) (length-map (drop i fs) field_in ∙ le
 
 -- ---- instructions counted
 
+pub one_or_none : (t : Bool) (r : ℕ) → r ≡ pick t 1 0 → r ≤ 1
+unfolding pick
+one_or_none true r e = omega arith
+one_or_none false r e = omega arith
+
 pub record Counting (fs : List ℕ) (i n : ℕ) : Type 0 where
   pub all : n + begun (fields_at i fs) ≡ begun (fields_at 0 fs)
   pub few : n ≤ i

@@ -6,16 +6,21 @@ ghost use Rattle.text.specs.Internal.{behind, number_found, PlaceIs, NumberPlace
 use crate::GREATEST_NUMBER;
 use base::part;
 
-// The place behind a fixed string, if it stands there.
+// The place behind a fixed string, if it stands there. Most strings that are tried differ in their first bytes, where the loop ends.
 pub fn fixed_at(s: &[u8], at: usize, string: &[u8]) -> Option<usize>
     ensures read { behind s.now result ≡ fixed string.now (drop at s.now) }
     ensures place { PlaceIs (at + length string.now) result }
 {
-    if part(s, at, string.len()) == string {
-        Some(at + string.len())
-    } else {
-        None
+    let there = part(s, at, string.len());
+    if there.len() < string.len() {
+        return None;
     }
+    for k in 0..string.len() {
+        if there[k] != string[k] {
+            return None;
+        }
+    }
+    Some(at + string.len())
 }
 
 // The digits of a number behind the first, and the byte that closes its field.

@@ -14,10 +14,10 @@ use Rattle.source.specs.declared.Token.{Token}
 use Rattle.source.specs.declared.Token.TheVariants.{Name, Number, Quoted, Binary, Compare, Mark}
 use Rattle.source.specs.Memory.{token_kind, token_carried, numbered_tokens, token_shapes, token_of}
 
-last_numbered : (k v : ℕ) → 3 ≤ k → Mark v ≡ get_or numbered_tokens k Mark v
+pub last_numbered : (k v : ℕ) → 3 ≤ k → Mark v ≡ get_or numbered_tokens k Mark v
 last_numbered k v h = ap (λ f. f v) (last_of_law (take 3 numbered_tokens) Mark k h)
 
-numbered_again : (k v : ℕ) → k < 4 → get_or numbered_tokens k Mark v ≡ token_of k v
+pub numbered_again : (k v : ℕ) → k < 4 → get_or numbered_tokens k Mark v ≡ token_of k v
 unfolding token_shapes token_of
 numbered_again k v h = ap (λ f. f v) (sym (get_or-append numbered_tokens (drop 4 token_shapes) Mark k h))
 

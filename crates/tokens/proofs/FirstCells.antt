@@ -9,7 +9,7 @@ use borrow.Author.Tests.{leb-true, le-leb, eq-eqb, ne_eqb}
 use lib.Dec.{leb}
 use lib.ListN.{length, get_or, take, drop}
 use Rattle.base.specs.Choice.{pick}
-use Rattle.base.proofs.Cases.{by_test}
+use Rattle.base.proofs.Cases.{both_yes, by_test}
 use Rattle.base.proofs.Lists.{drop_more}
 use Rattle.source.specs.Cells.{is_capital, is_small}
 use Rattle.source.specs.Tokens.{One, is_digit, in_name, run, past_run, decimal_value, name_at, keyword_at, decimal_at, text_at, constant_of, sign_at, lexeme}
@@ -19,6 +19,9 @@ use Rattle.tokens_fixed.specs.declared.One.TheVariants.{Token as TokenAt, Name}
 use Rattle.tokens_fixed.specs.Answers.{Is}
 use Rattle.tokens_constant.specs.Answers.{Constant, decimal_from}
 use Rattle.tokens.proofs.Names.{name_is}
+
+pub digit_from : (c : ℕ) → is_digit c ≡ true → 48 ≤ c
+digit_from c e = leb-true 48 c (both_yes _ _ e).0
 
 -- a range of characters, and what is outside it
 between : (low high c : ℕ) → low ≤ c → c ≤ high → pick (leb low c) (leb c high) false ≡ true

@@ -4,13 +4,14 @@ ghost use Rattle.source.specs.Tokens.{in_name, run, lexeme};
 ghost use Rattle.tokens_fixed.specs.Answers.{Is};
 
 use source::Refusal;
+use token_number::letters::is_capital;
 use tokens_constant::{decimal_from, quoted_from};
 use tokens_fixed::{One, keyword_at, sign_at};
 
 fn in_name(c: u8) -> bool
     ensures { result ≡ in_name c }
 {
-    c.is_ascii_uppercase() || c.is_ascii_digit()
+    is_capital(c) || c.is_ascii_digit()
 }
 
 // How many of "the letters and digits after it" stand in front.

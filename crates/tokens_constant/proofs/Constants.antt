@@ -25,11 +25,11 @@ use Rattle.tokens_constant.specs.Internal.{CharacterIs}
 
 -- ---- decimal constants
 
-digit_yes : (c : ℕ) → (48 ≤ c) × (c ≤ 57) → is_digit c ≡ true
+pub digit_yes : (c : ℕ) → (48 ≤ c) × (c ≤ 57) → is_digit c ≡ true
 unfolding pick
 digit_yes c digit = rw (le-leb 48 c digit.0, le-leb c 57 digit.1)
 
-digit_no : (c : ℕ) → (c < 48) ⊎ (57 < c) → is_digit c ≡ false
+pub digit_no : (c : ℕ) → (c < 48) ⊎ (57 < c) → is_digit c ≡ false
 unfolding pick
 digit_no c (inl low) = rw (lt-leb 48 c low)
 digit_no c (inr high) = by_test (leb 48 c) (λ e. rw (e, lt-leb c 57 high)) (λ e. rw e)

@@ -1,3 +1,4 @@
+pub mod ByNumber
 pub mod Tables
 pub mod Narrowness
 pub mod Translating

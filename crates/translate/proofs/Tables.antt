@@ -164,3 +164,25 @@ largest_more v ws i t h = rw (drop-cons ws i 0 h, add-one i) (omega arith)
 pub largest_ends : (v : ℕ) (ws : List ℕ) (i t : ℕ) → length ws ≤ i → max t (largest_stored v (orders_in (drop i ws))) ≡ t
 unfolding largest_stored
 largest_ends v ws i t h = rw (drop_ended ws i h) (omega arith)
+
+-- ---- what is noted, looked up
+
+pub noted_there : (l : List ℕ) (n k d : ℕ) → k < n → k < length l → get_or l k 0 ≡ get_or (take n l) k d
+noted_there [] n k d h g = absurd (omega arith)
+noted_there (x ∷ l) zero k d h g = absurd (omega arith)
+noted_there (x ∷ l) (suc n) zero d h g = refl
+noted_there (x ∷ l) (suc n) (suc k) d h g = noted_there l n k d (omega arith) (omega arith)
+
+pub noted_over : (l : List ℕ) (n k d : ℕ) → n ≤ k → d ≡ get_or (take n l) k d
+noted_over [] zero k d h = refl
+noted_over [] (suc n) k d h = refl
+noted_over (x ∷ l) zero k d h = refl
+noted_over (x ∷ l) (suc n) zero d h = absurd (omega arith)
+noted_over (x ∷ l) (suc n) (suc k) d h = noted_over l n k d (omega arith)
+
+pub noted_past : (l : List ℕ) (n k d : ℕ) → length l ≤ k → d ≡ get_or (take n l) k d
+noted_past [] zero k d h = refl
+noted_past [] (suc n) k d h = refl
+noted_past (x ∷ l) zero k d h = refl
+noted_past (x ∷ l) (suc n) zero d h = absurd (omega arith)
+noted_past (x ∷ l) (suc n) (suc k) d h = noted_past l n k d (omega arith)

@@ -320,5 +320,8 @@ module _ (fs : List ℕ) (v : ℕ) (out : List ℕ) (s : Spot) (m : List ℕ) (p
       };
     }
 
+pub front_some : (k : ℕ) (l : List ℕ) → k < length l → 1 ≤ length (take (k + 1) l)
+front_some k l h = omega (arith, length-take-le (k + 1) l (omega arith))
+
 pub front_few : (k : ℕ) (l : List ℕ) → k < length l → length l ≡ most_orders → length (take (k + 1) l) ≤ most_orders
 front_few k l h e = omega (arith, length-take-le (k + 1) l (omega arith))

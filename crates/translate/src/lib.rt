@@ -3,7 +3,7 @@
 
 ghost use Rattle.std.specs.Prelude.{◌-◌, ◌≤◌, ◌<◌, ◌≡◌, map, length, get_or, take};
 ghost use Rattle.order.specs.Limits.{most_variables, most_orders};
-ghost use Rattle.order.specs.Memory.{orders_in};
+ghost use Rattle.order.specs.Memory.{order_in, orders_in};
 ghost use Rattle.sheet.specs.Temporaries.{stored_to, largest_stored};
 ghost use Rattle.sheet.specs.Beginnings.{inner, is_last, of_instruction};
 ghost use Rattle.translate.specs.Internal.{led_word, noted, noted_by, table, Finishes};
@@ -13,6 +13,12 @@ use base::{at, put};
 use order::{MOST_ORDERS, MOST_VARIABLES, Order};
 use order_number::{order_in, order_word};
 use translate_part::put_part;
+
+// The number of JMP.
+const JUMP: u64 = 4;
+
+// The number of STR.
+const STORE: u64 = 11;
 
 // T and N of a sheet's translation: how many temporaries it has, and how many orders.
 #[derive(Clone, Copy)]
@@ -89,13 +95,15 @@ fn first_of(firsts: &[u32], n: usize, last: u32, s: u32) -> u32
     if k < n { at(firsts, k, last) } else { last }
 }
 
-// An order's number, with the address of its instruction where it is a jump.
+// An order's number, with the address of its instruction where it is a jump. The number is asked, not the enum: all orders come here.
 fn led(w: u64, firsts: &[u32], n: usize, last: u32) -> u64
     ensures { result ≡ led_word (take n firsts.now) last w }
 {
-    match order_in(w) {
-        Order::Jump(s) => order_word(Order::Jump(first_of(firsts, n, last, s))),
-        _ => w,
+    if w / 4294967296 == JUMP {
+        let s = (w % 4294967296) as u32;
+        order_word(Order::Jump(first_of(firsts, n, last, s)))
+    } else {
+        w
     }
 }
 
@@ -108,14 +116,16 @@ fn lead_all(orders: &mut [u64], firsts: &[u32], n: usize, last: u32)
     }
 }
 
-// The temporary that an order stores to, from 1; 0 where there is none.
-fn stored_to(o: Order, v: u32) -> u32
+// The temporary that the order that a number stands for stores to, from 1; 0 where there is none.
+fn stored_to(x: u64, v: u32) -> u32
     requires { v ≤ most_variables }
-    ensures { result ≡ stored_to v o }
+    ensures { result ≡ stored_to v (order_in x) }
 {
-    match o {
-        Order::Store(w) => w.saturating_sub(v + 1),
-        _ => 0,
+    if x / 4294967296 == STORE {
+        let w = (x % 4294967296) as u32;
+        w.saturating_sub(v + 1)
+    } else {
+        0
     }
 }
 
@@ -126,7 +136,7 @@ fn largest(orders: &[u64], v: u32) -> u32
 {
     let mut t: u32 = 0;
     for &w in orders {
-        t = t.max(stored_to(order_in(w), v));
+        t = t.max(stored_to(w, v));
     }
     t
 }

@@ -1,13 +1,17 @@
 -- What stands at a place of an array of fields.
-use Prim.Native.Nat.{ℕ, ◌-◌, ◌≤◌}
+use Prim.Native.Nat.{ℕ, suc, ◌-◌, ◌≤◌, ◌<◌}
 use mathlib.Core.Path.{◌≡◌, refl, sym, ap, ◌∙◌}
-use mathlib.Core.List.{List, [], ◌∷◌, ◌++◌}
+use mathlib.Core.List.{List, [], ◌∷◌, ◌++◌, map}
 use native.Mathlib.Omega.{arith}
-use lib.ListN.{length, drop, length-append, length-map, length-drop}
+use lib.ListN.{length, get_or, drop, length-append, length-map, length-drop}
+use lib.Seq.{drop-cons}
 use Rattle.sheet.specs.declared.Field.{Field}
 use Rattle.sheet_field.specs.Memory.{field_in, fields_at}
 
 module _ (fs : List ℕ) where
+  pub fields_inside : (at : ℕ) → at < length fs → fields_at at fs ≡ field_in (get_or fs at 0) ∷ fields_at (suc at) fs
+  fields_inside at h = ap (map field_in) (drop-cons fs at 0 h)
+
   pub fields_length : (at : ℕ) → length (fields_at at fs) ≡ length fs - at
   fields_length at = length-map (drop at fs) field_in ∙ length-drop at fs
 

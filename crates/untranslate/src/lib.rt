@@ -37,7 +37,7 @@ fn translates(fields: &[u64], v: u32, t: u32, orders: &[u64]) -> bool
 pub fn untranslate(orders: &[u64], v: u32, t: u32, fields: &mut [u64]) -> Option<Untranslated>
     ensures { Untranslates orders.now v t fields.old result fields.new }
 {
-    let n = guess(orders, v, fields)?;
+    let n = guess(orders, v, fields);
     let instructions = check(&fields[..n], v)?;
     if translates(&fields[..n], v, t, orders) {
         Some(Untranslated {

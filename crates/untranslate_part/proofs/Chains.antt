@@ -75,7 +75,7 @@ unbegun (Skips a) h k j = tt
 unbegun Stops h k j = tt
 
 -- an order that is not STOP stands inside the array
-role_inside : (first at : ℕ) (os : List ℕ) (q : Role) → q ≡ role_at first at os → (q ≡ Stops → ⊥) → at < length os
+pub role_inside : (first at : ℕ) (os : List ℕ) (q : Role) → q ≡ role_at first at os → (q ≡ Stops → ⊥) → at < length os
 role_inside first at os q known some =
     by_less at (length os) (λ h. h) (λ h. absurd (some (known ∙ ap (λ l. role_of first (first_order l)) (none_outside at os h))))
 

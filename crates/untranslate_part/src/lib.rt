@@ -8,7 +8,7 @@ ghost use Rattle.order.specs.Limits.{most_orders};
 ghost use Rattle.order.specs.Memory.{orders_in};
 ghost use Rattle.untranslate_part.specs.Internal.{role_of, role_at, ends_by, inner_by, number_behind, numbers, parts_of};
 ghost use Rattle.untranslate_part.specs.Internal.{IfPut, Chained, Joined, Beginning, Parting, Grouping, Choosing, Turning};
-ghost use Rattle.untranslate_part.specs.Guess.{Guessing};
+ghost use Rattle.untranslate_part.specs.Guess.{Guessing, TryGuessing};
 
 use order::Order;
 use order_number::order_in;
@@ -348,8 +348,8 @@ fn read_group(
 
 // The fields of the sheet with v variables whose translation the orders are, put at the front of the array: how many they are; or
 // none, where there are too many variables or orders, or no order, so that no sheet has them.
-pub fn guess(orders: &[u64], v: u32, fields: &mut [u64]) -> Option<usize>
-    ensures { Guessing orders.now v fields.old result fields.new }
+pub fn try_guess(orders: &[u64], v: u32, fields: &mut [u64]) -> Option<usize>
+    ensures { TryGuessing orders.now v fields.old result fields.new }
 {
     if order::MOST_VARIABLES < v || MOST_ORDERS < orders.len() || orders.is_empty() {
         return None;
@@ -359,4 +359,11 @@ pub fn guess(orders: &[u64], v: u32, fields: &mut [u64]) -> Option<usize>
     let mut table = [0; MOST_ORDERS];
     number_all(orders, first, &mut table);
     Some(read_part(orders, &table, 0, last, first, MOST_LEVELS, fields, 0))
+}
+
+// The same, and 0 fields where no sheet has the orders.
+pub fn guess(orders: &[u64], v: u32, fields: &mut [u64]) -> usize
+    ensures { Guessing orders.now v fields.old result fields.new }
+{
+    try_guess(orders, v, fields).unwrap_or(0)
 }

@@ -43,10 +43,11 @@ pub fn sub(a: u32, b: u32) -> u32
     a.wrapping_sub(b)
 }
 
+// Document 01: "product and power as helpers modulo 2 to the 32".
 pub fn mul(a: u32, b: u32) -> u32
     ensures { result ≡ product a b }
 {
-    a.wrapping_mul(b)
+    (a as u64 * b as u64 % 4294967296) as u32
 }
 
 // The integer that a pattern stands for.
