@@ -1,16 +1,14 @@
 -- Fields in memory, words compared, and the translation made again.
-use Prim.Native.Nat.{ℕ, ◌≤◌}
+use Prim.Native.Nat.{ℕ, zero, suc, ◌+◌, ◌≤◌, ◌<◌}
 use mathlib.Core.Path.{◌≡◌, refl, sym, ap, ap₂, ◌∙◌}
-use mathlib.Core.Bool.{Bool, true}
+use mathlib.Core.Bool.{Bool, true, false}
 use mathlib.Core.List.{List, [], ◌∷◌, ◌++◌, map}
 use native.Mathlib.Omega.{arith}
 use native.Mathlib.Nat.{zero-add}
-use lib.ListN.{length, take, length-map}
+use native.Mathlib.Numerals.{add-one}
+use lib.ListN.{length, get_or, take, length-map}
+use lib.Seq.{take-suc, take_all}
 use Rattle.std.specs.Prelude.{Option, Some}
-use lib.Dec.{eqb}
-use Rattle.std.specs.List.{starts_with}
-use Rattle.std.proofs.lemmas.Slice.Eq.{slice_eq-Decides}
-use Rattle.std.proofs.lemmas.Bool.Decides.{Decides-eqb}
 use Rattle.base.proofs.Cases.{by_less}
 use Rattle.base.proofs.Lists.{take_sets}
 use Rattle.order.specs.Limits.{most_variables, most_orders}
@@ -29,7 +27,7 @@ use Rattle.sheet_field.specs.Memory.{carried, field_word, field_in, fields_at, m
 use Rattle.sheet_field.proofs.Stored.{field_in_law}
 use Rattle.translate.specs.declared.Translated.{Translated}
 use Rattle.translate.specs.Answers.{TranslatesTo, Translates}
-use Rattle.untranslate.specs.Internal.{AgainOf}
+use Rattle.untranslate.specs.Internal.{Same, AgainOf}
 
 -- ---- fields that are stored are read again
 
@@ -85,6 +83,46 @@ module _ (v n : ℕ) (few : v ≤ most_variables) (small : n ≤ most_fields) wh
       (stored_append (part_fields x) _ (stored_part x f.3)
       (stored_mark Else _ refl (stored_append (part_fields y) _ (stored_part y f.4) (stored_mark Finish _ refl (stored_part l f.5)))))))
 
+-- ---- words compared
+
+get_d_take : (l : List ℕ) (n i d : ℕ) → i < n → get_or (take n l) i d ≡ get_or l i d
+get_d_take [] zero i d h = absurd (omega arith)
+get_d_take [] (suc n) i d h = refl
+get_d_take (x ∷ l) zero i d h = absurd (omega arith)
+get_d_take (x ∷ l) (suc n) zero d h = refl
+get_d_take (x ∷ l) (suc n) (suc i) d h = get_d_take l n i d (omega arith)
+
+module _ (front words : List ℕ) where
+  pub record Comparing (i : ℕ) : Type 0 where
+    pub so_far : take i front ≡ take i words
+    pub inside : i ≤ length words
+
+  pub same_none : Comparing 0
+  same_none = record { so_far = refl; inside = omega arith }
+
+  module _ (i : ℕ) (p : Comparing i) (room : length words ≤ length front) (h : i < length words) where
+    pub same_more : get_or front i 0 ≡ get_or words i 0 → Comparing (i + 1)
+    same_more e = record {
+      so_far =
+          rw (add-one i)
+          (take-suc front i 0 (omega arith) ∙ ap₂ (λ l x. l ++ x ∷ []) p.so_far e ∙ sym (take-suc words i 0 h));
+      inside = omega arith;
+    }
+
+    pub same_stops : (get_or front i 0 ≡ get_or words i 0 → ⊥) → Same front words false
+    same_stops no_same = record {
+      yes_so = λ e. let z : ◌≡◌ {A = ℕ} 0 1 = cc in absurd (omega arith);
+      no_so = λ e all. no_same (sym (get_d_take front (length words) i 0 h) ∙ ap (λ l. get_or l i 0) all);
+    }
+
+  pub same_ends : (i : ℕ) → Comparing i → length words ≤ i → Same front words true
+  same_ends i p h =
+      let all : i ≡ length words = omega (arith, p.inside) in
+      record {
+        yes_so = λ e. ap (λ k. take k front) (sym all) ∙ p.so_far ∙ take_all i words h;
+        no_so = λ e. let z : ◌≡◌ {A = ℕ} 0 1 = cc in absurd (omega arith);
+      }
+
 -- ---- the translation made again
 
 module _ (fs : List ℕ) (v t : ℕ) (os zeros : List ℕ) (long : length zeros ≡ most_orders) (r : Option Translated) (out : List ℕ) (made : Translates fs v zeros r out)
@@ -114,18 +152,13 @@ module _ (fs : List ℕ) (v t : ℕ) (os zeros : List ℕ) (long : length zeros 
         (λ over. let both = it.over (λ room. omega arith) in let z : ◌≡◌ {A = ℕ} 0 1 = cc in absurd (omega arith))
         (λ room. room)
 
-    pub again_compared : a.temporaries ≡ t → a.orders ≡ length os → (b : Bool) → b ≡ starts_with eqb out os → AgainOf v x t os b
-    again_compared used counted b compared =
-        let same = slice_eq-Decides Decides-eqb os (take (length os) out) b compared in
-        record {
-          yes_so = λ yes.
-              let n = length-map (translation (sheet v x)) order_word in (
-                roomy,
-                sym (told roomy).0 ∙ used,
-                sym (front roomy) ∙ ap (λ k. take k out) (n ∙ sym (told roomy).1 ∙ counted) ∙ sym (same.0 yes),
-              );
-          no_so = λ no room also all.
-              let equal : b ≡ true = same.1 (sym (ap (λ l. take (length l) out) (sym all) ∙ front room ∙ all)) in
-              let z : ◌≡◌ {A = ℕ} 0 1 = cc in
-              absurd (omega arith);
-        }
+    pub again_compared : a.temporaries ≡ t → a.orders ≡ length os → (b : Bool) → Same out os b → AgainOf v x t os b
+    again_compared used counted b s = record {
+      yes_so = λ yes_so.
+          let n = length-map (translation (sheet v x)) order_word in (
+            roomy,
+            sym (told roomy).0 ∙ used,
+            sym (front roomy) ∙ ap (λ k. take k out) (n ∙ sym (told roomy).1 ∙ counted) ∙ s.yes_so yes_so,
+          );
+      no_so = λ no_so room also all. s.no_so no_so (ap (λ l. take (length l) out) (sym all) ∙ front room ∙ all);
+    }

@@ -1,5 +1,5 @@
 -- What the private functions tell.
-use Rattle.std.specs.Prelude.{ℕ, ◌≤◌, ◌≡◌, Bool, true, false, List, map, length}
+use Rattle.std.specs.Prelude.{ℕ, ◌≤◌, ◌≡◌, Bool, true, false, List, map, length, take}
 use Rattle.order.specs.Limits.{most_variables, most_orders}
 use Rattle.order.specs.Memory.{order_word}
 use Rattle.sheet.specs.Sheet.{Part, count, sheet}
@@ -7,6 +7,10 @@ use Rattle.sheet.specs.Memory.{part_fields}
 use Rattle.sheet.specs.Translation.{translation, temporaries_of}
 use Rattle.sheet.specs.Within.{PartFormed}
 use Rattle.sheet_field.specs.Memory.{fields_at, most_fields}
+
+pub record Same (front words : List ℕ) (r : Bool) : Type 0 where
+  pub yes_so : r ≡ true → take (length words) front ≡ words
+  pub no_so : r ≡ false → take (length words) front ≡ words → ⊥
 
 -- what translating again tells of the instructions x
 pub record AgainOf (v : ℕ) (x : Part) (t : ℕ) (os : List ℕ) (r : Bool) : Type 0 where

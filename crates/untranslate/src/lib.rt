@@ -3,7 +3,7 @@
 #![tactic(auto)]
 
 ghost use Rattle.std.specs.Prelude.{◌≤◌, ◌≡◌, length};
-ghost use Rattle.untranslate.specs.Internal.{Again};
+ghost use Rattle.untranslate.specs.Internal.{Same, Again};
 ghost use Rattle.untranslate.specs.Answers.{Untranslates};
 
 use order::MOST_ORDERS;
@@ -18,6 +18,19 @@ pub struct Untranslated {
     pub fields: usize,
 }
 
+// Whether the first words of one array are those of another.
+fn same(front: &[u64], words: &[u64]) -> bool
+    requires { length words.now ≤ length front.now }
+    ensures { Same front.now words.now result }
+{
+    for i in 0..words.len() {
+        if front[i] != words[i] {
+            return false;
+        }
+    }
+    true
+}
+
 // Whether the sheet with V variables that the fields are of translates to the orders, with T temporaries.
 fn translates(fields: &[u64], v: u32, t: u32, orders: &[u64]) -> bool
     ensures { Again fields.now v t orders.now result }
@@ -29,7 +42,10 @@ fn translates(fields: &[u64], v: u32, t: u32, orders: &[u64]) -> bool
     if again.temporaries != t || again.orders as usize != orders.len() {
         return false;
     }
-    out.starts_with(orders)
+    if out.len() < orders.len() {
+        return false;
+    }
+    same(&out, orders)
 }
 
 // The sheet whose translation has V variables, T temporaries and the orders that are lent, or none. Free is what the array holds behind
