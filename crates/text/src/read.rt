@@ -6,7 +6,7 @@ ghost use Rattle.text.specs.Internal.{behind, number_found, PlaceIs, NumberPlace
 use crate::GREATEST_NUMBER;
 use base::part;
 
-// The place behind a fixed string, if it stands there. Most strings that are tried differ in their first bytes, where the loop ends.
+// The place behind a fixed string, if it stands there. Byte by byte: must-fail/other_bytes_taken.edit turns the comparison of one.
 pub fn fixed_at(s: &[u8], at: usize, string: &[u8]) -> Option<usize>
     ensures read { behind s.now result ≡ fixed string.now (drop at s.now) }
     ensures place { PlaceIs (at + length string.now) result }

@@ -18,7 +18,7 @@ pub struct Untranslated {
     pub fields: usize,
 }
 
-// Whether the first words of one array are those of another.
+// Whether the first words of one array are those of another. Word by word: must-fail/first_order_not_compared.edit leaves out the first.
 fn same(front: &[u64], words: &[u64]) -> bool
     requires { length words.now ≤ length front.now }
     ensures { Same front.now words.now result }
